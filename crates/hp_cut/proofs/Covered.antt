@@ -1,5 +1,5 @@
 -- Cuts that cover others.
-use Rattle.std.proofs.Common.{◌≡◌, ◌∙◌, ℕ, zero, suc, ◌+◌, ◌<◌, ◌≤◌, ℤ, List, [], ◌∷◌, ◌++◌, length, map, get_or, All, ◌⊎◌, inl, inr, add-one, refl, ap, ap₂, sym, subst, arith}
+use Rattle.std.proofs.Common.{◌≡◌, ◌∙◌, ℕ, zero, suc, ◌+◌, ◌<◌, ◌≤◌, ℤ, List, [], ◌∷◌, ◌++◌, length, map, get_or, All, IfSome, ◌⊎◌, inl, inr, add-one, refl, ap, ap₂, sym, subst, arith}
 use Rattle.std.proofs.Math.ListN.{get_or-append}
 use Rattle.std.proofs.lemmas.List.{get_or_default}
 use Rattle.std.proofs.Math.Seq.{get_or-append_seam}
@@ -7,7 +7,8 @@ use Rattle.std.proofs.lemmas.List.{length-append}
 use Rattle.std.proofs.lemmas.Int.{ints}
 use Rattle.hp_solver.specs.PackedCut.{PackedCut, no_packed_cut}
 use Rattle.hp_solver.specs.Covering.{value_of, packed_cut_at, IsBefore, Covers, IsCovered, AreRisingPlaces, CoverAll}
-use Rattle.hp_cut.specs.Active.{CoverFirst, IsLeft, AreMarkedFirst, IsMarked, AreFirst, IsActive}
+use Rattle.hp_cut.specs.Active.{CoverFirst, IsLeft, AreMarkedFirst, IsMarked, AreFirst, IsActive, IsRoomTaken}
+use Rattle.hp_cut.specs.CoarseLists.{IsCoarseOf}
 use Rattle.hp_cut.specs.declared.active_cuts.Active.{Active}
 
 -- a place is below where they end
@@ -209,6 +210,7 @@ active_among all others n a e same is =
         covered = λ j h. is.cover.covered j (omega (arith, h, e));
       });
       same = is.same ∙ same_cuts all others 0 n a.places.items same rising;
+      coarse = is.coarse;
       mark = record {
         few = few;
         cover = first_among all others a.lows.items a.highs.items a.marked.items a.marked_count (λ i h. same i (omega (arith, h, few))) is.mark.cover;
@@ -220,13 +222,15 @@ pub are_active : (all : List PackedCut) (n : ℕ) (a : Active) → AreFirst all 
 are_active all n a first e = record {
   cover = all_first all a.lows.items a.highs.items a.places.items n first.cover e;
   same = first.same;
+  coarse = first.coarse;
   mark = subst (λ (m : ℕ). AreMarkedFirst all m a) e first.mark;
 }
 
 -- the mark is set to cuts that cover all
-pub marked_now : (all : List PackedCut) (n : ℕ) (old new : Active) → n ≡ length all → IsActive all old → new.places.items ≡ old.places.items → new.lows.items ≡ old.lows.items → new.highs.items ≡ old.highs.items → new.copies ≡ old.copies → new.marked.items ≡ old.places.items → new.marked_count ≡ n → IsActive all new
-marked_now all n old new e is places lows highs copies marked count = record {
+pub marked_now : (all : List PackedCut) (n : ℕ) (old new : Active) → n ≡ length all → IsActive all old → new.places.items ≡ old.places.items → new.lows.items ≡ old.lows.items → new.highs.items ≡ old.highs.items → new.copies ≡ old.copies → new.coarse ≡ old.coarse → new.marked.items ≡ old.places.items → new.marked_count ≡ n → IsActive all new
+marked_now all n old new e is places lows highs copies coarse marked count = record {
   cover = rw (places, lows, highs) is.cover;
+  coarse = rw (coarse, copies) is.coarse;
   same = copies ∙ is.same ∙ ap (map (packed_cut_at all)) (sym places);
   mark = record {
     few = omega (arith, count, e);
@@ -242,9 +246,10 @@ none_covered all lows highs = record {
 }
 
 -- there is no mark any more
-pub marked_never : (all : List PackedCut) (old new : Active) → IsActive all old → new.places.items ≡ old.places.items → new.lows.items ≡ old.lows.items → new.highs.items ≡ old.highs.items → new.copies ≡ old.copies → new.marked.items ≡ [] → new.marked_count ≡ 0 → IsActive all new
-marked_never all old new is places lows highs copies marked count = record {
+pub marked_never : (all : List PackedCut) (old new : Active) → IsActive all old → new.places.items ≡ old.places.items → new.lows.items ≡ old.lows.items → new.highs.items ≡ old.highs.items → new.copies ≡ old.copies → new.coarse ≡ old.coarse → new.marked.items ≡ [] → new.marked_count ≡ 0 → IsActive all new
+marked_never all old new is places lows highs copies coarse marked count = record {
   cover = rw (places, lows, highs) is.cover;
+  coarse = rw (coarse, copies) is.coarse;
   same = copies ∙ is.same ∙ ap (map (packed_cut_at all)) (sym places);
   mark = record {
     few = omega (arith, count);
@@ -257,12 +262,25 @@ pub marked_below : (all : List PackedCut) (a : Active) (ps : List ℕ) → IsMar
 marked_below all a ps mark e same = rw same (all_below 0 (length all) a.marked.items (subst (λ (n : ℕ). AreRisingPlaces 0 n a.marked.items) e (mark e).rising))
 
 -- the places of the mark cover all cuts of a list that has as many
-pub gone_back : (all : List PackedCut) (old new : Active) → IsMarked all old → old.marked_count ≡ length all → new.places.items ≡ old.marked.items → new.lows.items ≡ old.lows.items → new.highs.items ≡ old.highs.items → new.copies ≡ map (packed_cut_at all) new.places.items → new.marked.items ≡ old.marked.items → new.marked_count ≡ old.marked_count → IsActive all new
-gone_back all old new mark e places lows highs copies marked count = record {
+pub gone_back : (all : List PackedCut) (old new : Active) → IsMarked all old → old.marked_count ≡ length all → new.places.items ≡ old.marked.items → new.lows.items ≡ old.lows.items → new.highs.items ≡ old.highs.items → new.copies ≡ map (packed_cut_at all) new.places.items → IfSome new.coarse (IsCoarseOf new.copies) → new.marked.items ≡ old.marked.items → new.marked_count ≡ old.marked_count → IsActive all new
+gone_back all old new mark e places lows highs copies coarse marked count = record {
   cover = rw (places, lows, highs) (all_first all old.lows.items old.highs.items old.marked.items old.marked_count (mark e) e);
   same = copies;
+  coarse = coarse;
   mark = record {
     few = omega (arith, count, e);
     cover = rw (marked, count, lows, highs) (mark e);
+  };
+}
+
+-- the cuts at the places in the room cover the first cuts and one more
+pub room_taken : (all : List PackedCut) (p : ℕ) (old mid new : Active) → AreFirst all p old → CoverFirst all (p + 1) mid.room.items old.lows.items old.highs.items → mid.lows.items ≡ old.lows.items → mid.highs.items ≡ old.highs.items → mid.marked.items ≡ old.marked.items → mid.marked_count ≡ old.marked_count → IsRoomTaken all mid new → AreFirst all (p + 1) new
+room_taken all p old mid new before cover lows highs marked count taken = record {
+  cover = rw (taken.places, taken.lows, taken.highs, lows, highs) cover;
+  same = taken.same;
+  coarse = taken.coarse;
+  mark = record {
+    few = omega (arith, taken.marked_count, count, before.mark.few);
+    cover = rw (taken.marked, taken.marked_count, taken.lows, taken.highs, lows, highs, marked, count) before.mark.cover;
   };
 }

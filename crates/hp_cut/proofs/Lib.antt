@@ -5,8 +5,9 @@ pub mod Weighted
 pub mod RaisedBoxMaxima
 pub mod MoreCuts
 pub mod ShortSlopes
+pub mod SlopeRanges
 pub mod Ends
 pub mod Covered
 pub mod Leads
-pub mod Limits
 pub mod PushedCuts
+pub mod FewerDigits

@@ -1,10 +1,8 @@
 -- Cuts side by side, with one cut more, and cut back.
-use Rattle.std.proofs.Common.{◌≡◌, ◌∙◌, ℕ, zero, suc, ◌+◌, ◌*◌, ◌<◌, ◌≤◌, ◌^◌, ℤ, true, List, [], ◌∷◌, ◌++◌, length, take, drop, map, nat_abs, All, Option, Some, None, IfSome, arith, ap, ap₂, sym, subst, refl, take_all}
+use Rattle.std.proofs.Common.{◌≡◌, ◌∙◌, ℕ, zero, suc, ◌+◌, ◌*◌, ◌<◌, ◌≤◌, ◌^◌, ℤ, true, List, [], ◌∷◌, ◌++◌, length, take, drop, nat_abs, All, arith, ap, ap₂, sym, refl, take_all}
 use Rattle.std.proofs.lemmas.List.{length-append, length-drop, length-map, length-take-le, take-append-le, drop-append-le, drop-take, take-take, take-map, map-append}
 use Rattle.std.proofs.lemmas.List.Elements.{All-append, All-cons, All-nil, All-take}
 use Rattle.hp_solver.specs.PackedCut.{PackedCut, cuts_of, ArePacked}
-use Rattle.hp_solver.specs.Falling.{IsFalling}
-use Rattle.hp_solver.specs.declared.packed.Falling.{Falling}
 use Rattle.hp_theory.specs.declared.cut.Cut.{Cut}
 use Rattle.hp_cut.specs.FlatCuts.{packed_cut, IsFlat}
 use Rattle.hp_cut.specs.declared.flat_cuts.FlatCuts.{FlatCuts}
@@ -33,11 +31,10 @@ packed_more n hs bs h own p room short is small =
     }
 
 -- one cut more
-pub more : (cs : List Cut) (c : Cut) (old new : FlatCuts) → IsFlat cs old → old.kept ≡ true → length c.beta ≡ old.states → nat_abs c.alpha < 2 ^ 100 → length old.heights.items < 2 ^ 24 → new.heights.items ≡ old.heights.items ++ c.alpha ∷ [] → new.slopes.items ≡ old.slopes.items ++ c.beta → All (λ s. nat_abs s < 2 ^ 57) c.beta → new.states ≡ old.states → ((all : List PackedCut) → IfSome old.falling (λ l. All (IsFalling l) all) → IfSome new.falling (λ l. All (IsFalling l) (all ++ packed_cut c ∷ []))) → IsFlat (cs ++ c ∷ []) new
-more cs c old new flat kept own short room heights slopes small states widened = record {
+pub more : (cs : List Cut) (c : Cut) (old new : FlatCuts) → IsFlat cs old → old.kept ≡ true → length c.beta ≡ old.states → nat_abs c.alpha < 2 ^ 100 → length old.heights.items < 2 ^ 24 → new.heights.items ≡ old.heights.items ++ c.alpha ∷ [] → new.slopes.items ≡ old.slopes.items ++ c.beta → All (λ s. nat_abs s < 2 ^ 57) c.beta → new.states ≡ old.states → IsFlat (cs ++ c ∷ []) new
+more cs c old new flat kept own short room heights slopes small states = record {
   packed = λ _. rw (heights, slopes, states) (packed_more old.states old.heights.items old.slopes.items c.alpha c.beta (flat.packed kept) room short own small);
   same = λ _. rw (heights, slopes, states) (cuts_of_more old.states old.heights.items old.slopes.items c.alpha c.beta (flat.packed kept).count own ∙ ap (λ (ps : List PackedCut). ps ++ packed_cut c ∷ []) (flat.same kept) ∙ sym (map-append packed_cut cs (c ∷ [])));
-  limits = λ _. subst (λ (ps : List PackedCut). IfSome new.falling (λ l. All (IsFalling l) ps)) (sym (map-append packed_cut cs (c ∷ []))) (widened (map packed_cut cs) (flat.limits kept));
 }
 
 -- lists with one cut more
@@ -80,17 +77,19 @@ packed_front n k hs bs p h =
       slopes = All-take (λ s. nat_abs s < 2 ^ 57) (k * n) bs p.slopes;
     }
 
--- limits of cuts are limits of the first of them
-front_limits : (k : ℕ) (all : List PackedCut) (known : Option Falling) → IfSome known (λ l. All (IsFalling l) all) → IfSome known (λ l. All (IsFalling l) (take k all))
-front_limits k all None h = tt
-front_limits k all (Some l) h = All-take (IsFalling l) k all h
+-- the view of contracts of them
+pub seen_back : (n k : ℕ) (hs bs gs ss : List ℤ) (old : List PackedCut) → gs ≡ take k hs → ss ≡ take (k * n) bs → cuts_of n hs bs ≡ old → cuts_of n gs ss ≡ take k old
+seen_back n k hs bs gs ss old heights slopes same = rw (heights, slopes) (cuts_of_front n k hs bs ∙ ap (take k) same)
+
+-- nothing is cut back
+pub seen_whole : (n k : ℕ) (hs bs : List ℤ) (old : List PackedCut) → length hs ≤ k → cuts_of n hs bs ≡ old → old ≡ take k old
+seen_whole n k hs bs old h same = sym (take_all k old (omega (arith, h, ap length same, length_cuts_of n hs bs)))
 
 -- the cuts are cut back
-pub front : (cs : List Cut) (k : ℕ) (old new : FlatCuts) → k ≤ length cs → IsFlat cs old → old.kept ≡ true → new.heights.items ≡ take k old.heights.items → new.slopes.items ≡ take (k * old.states) old.slopes.items → new.states ≡ old.states → new.falling ≡ old.falling → IsFlat (take k cs) new
-front cs k old new few flat kept heights slopes states limits =
+pub front : (cs : List Cut) (k : ℕ) (old new : FlatCuts) → k ≤ length cs → IsFlat cs old → old.kept ≡ true → new.heights.items ≡ take k old.heights.items → new.slopes.items ≡ take (k * old.states) old.slopes.items → new.states ≡ old.states → IsFlat (take k cs) new
+front cs k old new few flat kept heights slopes states =
     let count : length old.heights.items ≡ length cs = sym (length_cuts_of old.states old.heights.items old.slopes.items) ∙ ap length (flat.same kept) ∙ length-map cs packed_cut in
     record {
       packed = λ _. rw (heights, slopes, states) (packed_front old.states k old.heights.items old.slopes.items (flat.packed kept) (omega (arith, few, count)));
       same = λ _. rw (heights, slopes, states) (cuts_of_front old.states k old.heights.items old.slopes.items ∙ ap (take k) (flat.same kept) ∙ take-map packed_cut k cs);
-      limits = λ _. subst (λ (ps : List PackedCut). IfSome new.falling (λ l. All (IsFalling l) ps)) (take-map packed_cut k cs) (subst (λ (o : Option Falling). IfSome o (λ l. All (IsFalling l) (take k (map packed_cut cs)))) (sym limits) (front_limits k (map packed_cut cs) old.falling (flat.limits kept)));
     }

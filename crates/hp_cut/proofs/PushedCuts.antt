@@ -7,6 +7,9 @@ use Rattle.hp_theory.specs.declared.cut.Cut.{Cut}
 use Rattle.hp_cut.specs.declared.active_cuts.Active.{Active}
 use Rattle.hp_cut.specs.FlatCuts.{packed_cut}
 use Rattle.hp_cut.specs.Active.{AreFirst, IsMarked, IsActive}
+use Rattle.hp_cut.specs.SlopeRanges.{AreEndsOfFirst, AreEndsOf}
+use Rattle.hp_cut.specs.declared.slope_range.SlopeRange.{SlopeRange}
+use Rattle.hp_cut.proofs.SlopeRanges.{among}
 use Rattle.hp_cut.proofs.Covered.{first_among, same_with, active_among, are_active}
 
 first_of_more : (cs ds : List Cut) (c : Cut) (a : Active) → ds ≡ cs ++ c ∷ [] → IsActive (map packed_cut cs) a → AreFirst (map packed_cut ds) (length ds - 1) a
@@ -34,3 +37,13 @@ first_of_fewer cs ds k a put is = λ count.
 
 pub truncated : (cs ds : List Cut) (k : ℕ) (old got : Option Active) → got ≡ old → ds ≡ take k cs → IfSome old (IsActive (map packed_cut cs)) → IfSome got (IsMarked (map packed_cut ds))
 truncated cs ds k old got same put is = rw same (IfSome_then old is (λ a here. first_of_fewer cs ds k a put here))
+
+range_of_more : (cs ds : List Cut) (c : Cut) (r : SlopeRange) → ds ≡ cs ++ c ∷ [] → AreEndsOf (map packed_cut cs) r → AreEndsOfFirst (map packed_cut ds) (length ds - 1) r
+range_of_more cs ds c r put is =
+    let all : map packed_cut cs ++ packed_cut c ∷ [] ≡ map packed_cut ds = sym (map-append packed_cut cs (c ∷ [])) ∙ ap (map packed_cut) (sym put) in
+    let count : length (map packed_cut cs) ≡ length ds - 1 = omega (arith, length-map cs packed_cut, length-append cs (c ∷ []), ap length put) in
+    subst (λ (n : ℕ). AreEndsOfFirst (map packed_cut ds) n r) count (subst (λ (ps : List PackedCut). AreEndsOfFirst ps (length (map packed_cut cs)) r) all
+    (among (map packed_cut cs) (map packed_cut cs ++ packed_cut c ∷ []) (length (map packed_cut cs)) r (same_with (map packed_cut cs) (packed_cut c)) is))
+
+pub widened : (cs ds : List Cut) (c : Cut) (old got : Option SlopeRange) → got ≡ old → ds ≡ cs ++ c ∷ [] → IfSome old (AreEndsOf (map packed_cut cs)) → IfSome got (AreEndsOfFirst (map packed_cut ds) (length ds - 1))
+widened cs ds c old got same put is = rw same (IfSome_then old is (λ r here. range_of_more cs ds c r put here))

@@ -1,9 +1,10 @@
 -- Cuts that cover the first cuts of a list.
-use Rattle.std.specs.Prelude.{◌≡◌, ℕ, ◌<◌, ◌≤◌, ◌^◌, ℤ, pos, ◌+ℤ◌, ◌-ℤ◌, ◌*ℤ◌, ◌≤ℤ◌, List, length, map, ◌⊎◌}
+use Rattle.std.specs.Prelude.{◌≡◌, ℕ, ◌<◌, ◌≤◌, ◌^◌, ℤ, pos, ◌+ℤ◌, ◌-ℤ◌, ◌*ℤ◌, ◌≤ℤ◌, List, length, map, ◌⊎◌, IfSome}
 use Rattle.std.specs.Int.{int_min}
 use Rattle.hp_num.specs.Sums.{entry}
 use Rattle.hp_solver.specs.PackedCut.{PackedCut}
 use Rattle.hp_solver.specs.Covering.{value_of, packed_cut_at, AreInside, Covers, IsCovered, AreRisingPlaces, CoverAll}
+use Rattle.hp_cut.specs.CoarseLists.{IsCoarseOf}
 use Rattle.hp_cut.specs.declared.active_cuts.Active.{Active}
 
 -- the lesser product of a difference of slopes with an end of the box of the state k
@@ -32,14 +33,26 @@ pub record AreMarkedFirst (all : List PackedCut) (count : ℕ) (a : Active) : Ty
 abbrev pub IsMarked : List PackedCut → Active → Type 0
 IsMarked all a = a.marked_count ≡ length all → CoverFirst all a.marked_count a.marked.items a.lows.items a.highs.items
 
--- these cover the first cuts of a list, and stand side by side once more
+-- these cover the first cuts of a list, and stand side by side once more, in fewer digits too where these are known
 pub record AreFirst (all : List PackedCut) (count : ℕ) (a : Active) : Type 0 where
   pub cover : CoverFirst all count a.places.items a.lows.items a.highs.items
   pub same : a.copies ≡ map (packed_cut_at all) a.places.items
+  pub coarse : IfSome a.coarse (IsCoarseOf a.copies)
   pub mark : AreMarkedFirst all count a
 
--- these cover all cuts of a list, and stand side by side once more
+-- these cover all cuts of a list, and stand side by side once more, in fewer digits too where these are known
 pub record IsActive (all : List PackedCut) (a : Active) : Type 0 where
   pub cover : CoverAll all a.places.items a.lows.items a.highs.items
   pub same : a.copies ≡ map (packed_cut_at all) a.places.items
+  pub coarse : IfSome a.coarse (IsCoarseOf a.copies)
   pub mark : AreMarkedFirst all (length all) a
+
+-- the places in the room stand for the former ones, and nothing else has changed
+pub record IsRoomTaken (all : List PackedCut) (old new : Active) : Type 0 where
+  pub places : new.places.items ≡ old.room.items
+  pub same : new.copies ≡ map (packed_cut_at all) new.places.items
+  pub coarse : IfSome new.coarse (IsCoarseOf new.copies)
+  pub lows : new.lows.items ≡ old.lows.items
+  pub highs : new.highs.items ≡ old.highs.items
+  pub marked : new.marked.items ≡ old.marked.items
+  pub marked_count : new.marked_count ≡ old.marked_count

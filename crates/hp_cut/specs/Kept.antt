@@ -7,10 +7,14 @@ use Rattle.hp_cut.specs.declared.active_cuts.Active.{Active}
 use Rattle.hp_cut.specs.FlatCuts.{packed_cut, IsFlat}
 use Rattle.hp_cut.specs.Active.{IsActive}
 use Rattle.hp_cut.specs.BoxMaxima.{IsBoxMaximum}
+use Rattle.hp_cut.specs.SlopeRanges.{AreEndsOf}
+use Rattle.hp_cut.specs.declared.slope_range.SlopeRange.{SlopeRange}
 
--- at most 2^24 cuts, the same side by side, their box maxima over some boxes, and those that cover them over a box
-pub record AreCutsKept (cuts : List Cut) (beside : FlatCuts) (tops : List BoxMaximum) (chosen : Option Active) : Type 0 where
+-- at most 2^24 cuts, the same side by side, their box maxima over some boxes, those that cover them over a box, and the ends of their
+-- slopes
+pub record AreCutsKept (cuts : List Cut) (beside : FlatCuts) (tops : List BoxMaximum) (chosen : Option Active) (known : Option SlopeRange) : Type 0 where
   pub few : length cuts ≤ 2 ^ 24
   pub flat : IsFlat cuts beside
   pub box_maxima : All (IsBoxMaximum cuts) tops
   pub active : IfSome chosen (IsActive (map packed_cut cuts))
+  pub range : IfSome known (AreEndsOf (map packed_cut cuts))

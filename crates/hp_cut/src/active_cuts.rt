@@ -1,15 +1,18 @@
 // The cuts of a node that cover the others over a box of states.
-ghost use Rattle.std.specs.Prelude.{◌≡◌, ◌<◌, ◌+◌, ℕ, ◌+ℤ◌, ◌-ℤ◌, ◌*ℤ◌, List, length, get_or, true, IfOk, IfSome, OnOk};
+ghost use Rattle.std.specs.Prelude.{◌≡◌, ◌<◌, ◌+◌, ℕ, ◌+ℤ◌, ◌-ℤ◌, ◌*ℤ◌, List, length, map, take, get_or, true, All, IfOk, IfSome, OnOk};
 ghost use Rattle.std.specs.Int.{int_min};
 ghost use Rattle.hp_num.specs.Sums.{sum_to};
 ghost use Rattle.hp_solver.specs.PackedCut.{PackedCut};
 ghost use Rattle.hp_solver.specs.Covering.{packed_cut_at, AreRisingPlaces, IsCovered, Covers, AreActive};
-ghost use Rattle.hp_cut.specs.Active.{lesser_over, IsLead, IsLeft, AreFirst, IsActive, IsMarked};
+ghost use Rattle.hp_solver.specs.Coarse.{IsCoarse};
+ghost use Rattle.hp_cut.specs.CoarseLists.{IsCoarseFront, IsCoarseOf};
+ghost use Rattle.hp_cut.specs.Active.{lesser_over, IsLead, IsLeft, AreFirst, IsActive, IsMarked, IsRoomTaken};
 
 use crate::box_maxima::{OutBox, sum};
+use crate::coarse::Coarse;
 use crate::copies::Copies;
 use hp_num::Memory;
-use hp_solver::{ActiveCuts, CutList};
+use hp_solver::{ActiveCuts, CoarseCuts, CutList};
 use std::alloc::Global;
 
 /// The cuts of a node by which all its cuts are covered over a box: at every state of the box some of these is the greater,
@@ -28,6 +31,9 @@ pub(crate) struct Active {
     corners: Vec<Corners>,
     /// The cuts at the places once more, side by side.
     copies: Copies,
+    /// The same cuts in fewer binary digits, none where one rises with a state, where a number does not fit, and where memory was
+    /// refused.
+    coarse: Option<Coarse>,
     /// The number of cuts at the mark, 0 where there is none.
     marked_count: u32,
     /// The places at the mark.
@@ -208,6 +214,70 @@ fn keep_rest(all: &Compared, places: &[u32], place: u32, room: &mut Vec<u32>) ->
     Ok(())
 }
 
+/// Finds how many places two lists have in common at their front.
+fn same_front(places: &[u32], others: &[u32]) -> usize
+    ensures { take result places.now ≡ take result others.now }
+{
+    let most = places.len().min(others.len());
+    for k in 0..most {
+        if places[k] != others[k] {
+            return k;
+        }
+    }
+    most
+}
+
+/// Updates cuts in fewer digits, the first of which stay, as many as the count says. None where the cuts cannot be had in fewer
+/// digits.
+fn refilled(coarse: Option<Coarse>, highs: &[i64], cuts: &CutList, kept: usize) -> Option<Coarse>
+    requires { IfSome coarse (IsCoarseFront kept cuts.now) }
+    ensures { IfSome result (IsCoarseOf cuts.now) }
+{
+    let mut found = coarse?;
+    if found.refill(cuts, kept) {
+        return Some(found);
+    }
+    if found.remake(highs, cuts) {
+        return Some(found);
+    }
+    None
+}
+
+/// Makes cuts in fewer digits anew, in the memory of others where there are some. None where the cuts cannot be had in fewer
+/// digits.
+fn remade(alloc: Global, coarse: Option<Coarse>, highs: &[i64], cuts: &CutList) -> Option<Coarse>
+    ensures { IfSome result (IsCoarseOf cuts.now) }
+{
+    let Some(mut found) = coarse else {
+        return Coarse::of(alloc, highs, cuts);
+    };
+    if found.remake(highs, cuts) {
+        return Some(found);
+    }
+    None
+}
+
+/// Copies the cuts at other places of a list, and updates them in fewer digits. What both have at their front stays. [`Memory`]
+/// where memory was refused, and where a cut has more or fewer slopes than the others.
+fn moved(
+    copies: &mut Copies,
+    coarse: Option<Coarse>,
+    highs: &[i64],
+    cuts: &CutList,
+    places: &[u32],
+    others: &[u32],
+) -> Result<Option<Coarse>, Memory>
+    requires others { All (λ (p : ℕ). p < length cuts.now) others.now }
+    requires copies { copies.old ≡ map (packed_cut_at cuts.now) places.now }
+    requires coarse { IfSome coarse (IsCoarseOf copies.old) }
+    ensures copies { OnOk result (copies.new ≡ map (packed_cut_at cuts.now) others.now) }
+    ensures coarse { IfOk result (λ found. IfSome found (IsCoarseOf copies.new)) }
+{
+    let kept = same_front(places, others);
+    copies.fill(cuts, others, kept)?;
+    Ok(refilled(coarse, highs, &copies.list(), kept))
+}
+
 /// Writes some places over others. [`Memory`] where memory was refused.
 fn copy_places(from: &[u32], to: &mut Vec<u32>) -> Result<(), Memory>
     ensures { OnOk result (to.new.items ≡ from.now) }
@@ -235,6 +305,7 @@ impl Active {
             room: Vec::new(alloc),
             corners: Vec::new(alloc),
             copies: Copies::none(alloc, cuts),
+            coarse: None,
             marked_count: 0,
             marked: Vec::new(alloc),
         })
@@ -248,6 +319,7 @@ impl Active {
         for place in 0..cuts.len() as u32 {
             found.add(cuts, place)?;
         }
+        found.coarse = Coarse::of(alloc, found.highs.as_slice(), &found.copies.list());
         Ok(found)
     }
 
@@ -273,7 +345,22 @@ impl Active {
         }
         keep_rest(&all, self.places.as_slice(), place, &mut self.room)?;
         self.room.push(place)?;
-        self.copies.fill(cuts, self.room.as_slice())?;
+        self.take_room(cuts)
+    }
+
+    /// Takes the places in the room in place of the others. [`Memory`] where memory was refused, and where a cut has more or
+    /// fewer slopes than the others.
+    fn take_room(&mut self, cuts: &CutList) -> Result<(), Memory>
+        requires room { All (λ (p : ℕ). p < length cuts.now) self.old.room.items }
+        requires same { self.old.copies ≡ map (packed_cut_at cuts.now) self.old.places.items }
+        requires coarse { IfSome self.old.coarse (IsCoarseOf self.old.copies) }
+        ensures { OnOk result (IsRoomTaken cuts.now self.old self.new) }
+    {
+        let coarse = self.coarse.take();
+        let highs = self.highs.as_slice();
+        let places = self.places.as_slice();
+        let others = self.room.as_slice();
+        self.coarse = moved(&mut self.copies, coarse, highs, cuts, places, others)?;
         std::mem::swap(&mut self.places, &mut self.room);
         Ok(())
     }
@@ -300,7 +387,10 @@ impl Active {
             return Err(Memory);
         }
         copy_places(self.marked.as_slice(), &mut self.places)?;
-        self.copies.fill(cuts, self.places.as_slice())?;
+        self.copies.fill(cuts, self.places.as_slice(), 0)?;
+        let alloc = *self.places.allocator();
+        let highs = self.highs.as_slice();
+        self.coarse = remade(alloc, self.coarse.take(), highs, &self.copies.list());
         self.corners.truncate(cuts.len());
         Ok(())
     }
@@ -311,13 +401,25 @@ impl Active {
         ensures lows { result.lows.now ≡ self.now.lows.items }
         ensures highs { result.highs.now ≡ self.now.highs.items }
         ensures cuts { result.cuts ≡ self.now.copies }
+        ensures coarse { IfSome self.now.coarse (IsCoarseOf self.now.copies) → IfSome result.coarse (IsCoarse self.now.copies) }
     {
         ActiveCuts {
             places: self.places.as_slice(),
             lows: self.lows.as_slice(),
             highs: self.highs.as_slice(),
             cuts: self.copies.list(),
+            coarse: lent_coarse(&self.coarse),
         }
+    }
+}
+
+/// Lends cuts in fewer digits, where there are some.
+fn lent_coarse(coarse: &Option<Coarse>) -> Option<CoarseCuts<'_>>
+    ensures { (cuts : List PackedCut) → IfSome coarse.now (IsCoarseOf cuts) → IfSome result (IsCoarse cuts) }
+{
+    match coarse {
+        Some(found) => Some(found.lent()),
+        None => None,
     }
 }
 

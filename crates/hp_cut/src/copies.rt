@@ -1,5 +1,5 @@
 // Copies of some cuts of a node, side by side in memory.
-ghost use Rattle.std.specs.Prelude.{◌≡◌, ◌∷◌, ◌++◌, ◌<◌, ℕ, [], length, map, All, OnOk};
+ghost use Rattle.std.specs.Prelude.{◌≡◌, ◌∷◌, ◌++◌, ◌<◌, ℕ, [], length, map, take, All, OnOk};
 ghost use Rattle.hp_solver.specs.Covering.{packed_cut_at};
 
 use hp_num::Memory;
@@ -58,12 +58,14 @@ impl Copies {
         }
     }
 
-    /// Drops all copies.
-    fn clear(&mut self)
-        ensures { self.new ≡ [] }
+    /// Keeps the first copies alone, as many as the count says.
+    fn truncate(&mut self, kept: usize)
+        ensures { self.new ≡ take kept self.old }
     {
-        self.heights.clear();
-        self.slopes.clear();
+        if kept < self.heights.len() {
+            self.heights.truncate(kept);
+            self.slopes.truncate(kept * self.states);
+        }
     }
 
     /// Copies the cut at a place of a list behind the others. [`Memory`] where memory was refused, where the cut has more or
@@ -87,14 +89,15 @@ impl Copies {
         }
     }
 
-    /// Copies the cuts at some places of a list, in place of those that were copied. [`Memory`] where memory was refused, and
-    /// where a cut has more or fewer slopes than the others.
-    pub(crate) fn fill(&mut self, cuts: &CutList, places: &[u32]) -> Result<(), Memory>
-        requires { All (λ (p : ℕ). p < length cuts.now) places.now }
+    /// Copies the cuts at some places of a list. The first copies, as many as the count says, stay in place, the others go.
+    /// [`Memory`] where memory was refused, and where a cut has more or fewer slopes than the others.
+    pub(crate) fn fill(&mut self, cuts: &CutList, places: &[u32], kept: usize) -> Result<(), Memory>
+        requires places { All (λ (p : ℕ). p < length cuts.now) places.now }
+        requires kept { take kept self.old ≡ map (packed_cut_at cuts.now) (take kept places.now) }
         ensures { OnOk result (self.new ≡ map (packed_cut_at cuts.now) places.now) }
     {
-        self.clear();
-        for k in 0..places.len() {
+        self.truncate(kept);
+        for k in kept..places.len() {
             self.push(cuts, places[k])?;
         }
         Ok(())

@@ -1,13 +1,11 @@
 // A node's cuts once more, side by side in memory.
 ghost use Rattle.std.specs.Prelude.{◌≡◌, ◌≤◌, ◌∷◌, ◌++◌, ◌<◌, ◌^◌, [], List, length, map, take, nat_abs, nat_lt, All, IfSome, OnOk, true, false};
 ghost use Rattle.hp_theory.specs.declared.cut.Cut.{Cut};
-ghost use Rattle.hp_solver.specs.PackedCut.{PackedCut, ArePacked};
-ghost use Rattle.hp_solver.specs.Falling.{IsFalling};
+ghost use Rattle.hp_solver.specs.PackedCut.{ArePacked};
 ghost use Rattle.hp_cut.specs.FlatCuts.{packed_cut, IsFlat};
 
-use crate::falling::{of_none, widened};
 use hp_num::Memory;
-use hp_solver::{CutList, Falling};
+use hp_solver::CutList;
 use hp_theory::Cut;
 use std::alloc::Global;
 
@@ -25,8 +23,6 @@ pub(crate) struct FlatCuts {
     slopes: Vec<i64>,
     /// The number of slopes of each cut.
     states: usize,
-    /// The limits of all cuts, where none rises with a state.
-    falling: Option<Falling>,
     /// All cuts are there.
     kept: bool,
 }
@@ -82,7 +78,6 @@ impl FlatCuts {
             heights: Vec::new(alloc),
             slopes: Vec::new(alloc),
             states: 0,
-            falling: None,
             kept: false,
         }
     }
@@ -97,7 +92,6 @@ impl FlatCuts {
             heights: Vec::new(alloc),
             slopes: Vec::new(alloc),
             states,
-            falling: Some(of_none()),
             kept: states <= MOST_STATES,
         };
         for cut in cuts {
@@ -130,15 +124,13 @@ impl FlatCuts {
             && self.heights.len() < MOST_CUTS
     }
 
-    // Puts a cut behind the others, and widens their limits.
+    // Puts a cut behind the others.
     fn push(&mut self, cut: &Cut) -> Result<(), Memory>
         ensures heights { OnOk result (self.new.heights.items ≡ self.old.heights.items ++ cut.now.alpha ∷ []) }
         ensures slopes { OnOk result (self.new.slopes.items ≡ self.old.slopes.items ++ cut.now.beta) }
         ensures small { OnOk result (All (λ s. nat_abs s < 2 ^ 57) cut.now.beta) }
         ensures states { self.new.states ≡ self.old.states }
-        ensures limits { (all : List PackedCut) → IfSome self.old.falling (λ l. All (IsFalling l) all) → IfSome self.new.falling (λ l. All (IsFalling l) (all ++ packed_cut cut.now ∷ [])) }
     {
-        self.falling = widened(self.falling, cut);
         self.heights.push(cut.alpha)?;
         push_short(&mut self.slopes, cut.beta.as_slice())
     }
@@ -180,12 +172,5 @@ impl FlatCuts {
         } else {
             None
         }
-    }
-
-    /// Gives the limits of the cuts, where they are kept and none rises with a state.
-    pub(crate) fn falling(&self) -> Option<Falling>
-        ensures { (cuts : List Cut) → IsFlat cuts self.now → IfSome result (λ l. All (IsFalling l) (map packed_cut cuts)) }
-    {
-        if self.kept { self.falling } else { None }
     }
 }

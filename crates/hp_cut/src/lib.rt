@@ -3,13 +3,14 @@
 
 mod active_cuts;
 pub mod box_maxima;
+mod coarse;
 mod copies;
 mod cut_value;
 pub mod entry;
-mod falling;
 mod flat_cuts;
 mod pool;
 pub mod pools;
+mod slope_range;
 
 pub use box_maxima::OutBox;
 pub use cut_value::value_of_cut;

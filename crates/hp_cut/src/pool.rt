@@ -4,10 +4,12 @@ ghost use Rattle.hp_theory.specs.declared.cut.Cut.{Cut};
 ghost use Rattle.hp_cut.specs.FlatCuts.{packed_cut, IsFlat};
 ghost use Rattle.hp_cut.specs.Active.{AreFirst, IsActive, IsMarked};
 ghost use Rattle.hp_cut.specs.BoxMaxima.{box_maximum_over, IsBoxMaximum};
+ghost use Rattle.hp_cut.specs.SlopeRanges.{AreEndsOfFirst, AreEndsOf};
 
 use crate::active_cuts::{Active, lent};
 use crate::box_maxima::{BoxMaximum, OutBox};
 use crate::flat_cuts::FlatCuts;
+use crate::slope_range::{SlopeRange, ends};
 use hp_num::Memory;
 use hp_solver::PackedCuts;
 use hp_theory::Cut;
@@ -31,6 +33,8 @@ pub(crate) struct Pool {
     box_maxima: Vec<BoxMaximum>,
     /// The cuts that cover the others over a box.
     active: Option<Active>,
+    /// The ends of all slopes.
+    range: Option<SlopeRange>,
 }
 
 impl Model for Pool {
@@ -42,7 +46,7 @@ impl Model for Pool {
 
     ghost view = { λ p. record { cuts = p.cuts.items; spare = vec_capacity p.cuts - vec_len p.cuts } };
 
-    ghost invariant = { λ p. AreCutsKept p.cuts.items p.flat p.box_maxima.items p.active };
+    ghost invariant = { λ p. AreCutsKept p.cuts.items p.flat p.box_maxima.items p.active p.range };
 }
 
 /// Updates each box maximum with a new cut. False where a product or a sum leaves i128, and where memory was refused.
@@ -118,6 +122,49 @@ fn renewed(active: Option<Active>, flat: &FlatCuts, cuts: &[Cut]) -> Option<Acti
     }
 }
 
+/// Updates the ends of slopes with the last of the cuts, where they are those of the cuts before it. None where the cuts are not side
+/// by side, where too many cuts have the least slopes, and where memory was refused.
+fn widened(range: Option<SlopeRange>, flat: &FlatCuts, cuts: &[Cut]) -> Option<SlopeRange>
+    requires flat { IsFlat cuts.now flat.now }
+    requires some { 0 < length cuts.now }
+    requires few { length cuts.now ≤ 2 ^ 24 }
+    requires before { IfSome range (AreEndsOfFirst (map packed_cut cuts.now) (length cuts.now - 1)) }
+    ensures { IfSome result (AreEndsOf (map packed_cut cuts.now)) }
+{
+    let mut found = range?;
+    let list = flat.list()?;
+    let last = cuts.len() - 1;
+    if found.add(&list, last as u32) {
+        Some(found)
+    } else {
+        None
+    }
+}
+
+/// Finds the ends of slopes. None where the cuts are not side by side, where too many cuts have the least slopes, and where memory was
+/// refused.
+fn range_of(alloc: Global, flat: &FlatCuts, cuts: &[Cut]) -> Option<SlopeRange>
+    requires { IsFlat cuts.now flat.now }
+    ensures { IfSome result (AreEndsOf (map packed_cut cuts.now)) }
+{
+    let _ = cuts;
+    let list = flat.list()?;
+    match SlopeRange::of(alloc, &list) {
+        Ok(found) => found,
+        Err(_) => None,
+    }
+}
+
+/// Finds the ends of slopes anew, where there were some. None where the cuts are not side by side, where too many cuts have the least
+/// slopes, and where memory was refused.
+fn narrowed(range: Option<SlopeRange>, flat: &FlatCuts, cuts: &[Cut]) -> Option<SlopeRange>
+    requires { IsFlat cuts.now flat.now }
+    ensures { IfSome result (AreEndsOf (map packed_cut cuts.now)) }
+{
+    let alloc = range?.allocator();
+    range_of(alloc, flat, cuts)
+}
+
 /// Takes each box maximum back to the first cuts, as many as the count says.
 fn truncate_all(box_maxima: &mut [BoxMaximum], count: u32)
     ensures { (cuts : List Cut) → count ≤ length cuts → All (IsBoxMaximum cuts) box_maxima.old → All (IsBoxMaximum (take count cuts)) box_maxima.new }
@@ -175,6 +222,7 @@ impl Pool {
             flat: FlatCuts::none(alloc),
             box_maxima: Vec::new(alloc),
             active: None,
+            range: None,
         }
     }
 
@@ -202,6 +250,7 @@ impl Pool {
         match self.cuts.push(cut) {
             Ok(()) => {
                 self.active = renewed(self.active.take(), &self.flat, self.cuts.as_slice());
+                self.range = widened(self.range.take(), &self.flat, self.cuts.as_slice());
                 Ok(())
             }
             Err(_) => {
@@ -225,6 +274,7 @@ impl Pool {
         self.flat.truncate(count);
         self.cuts.truncate(count as usize);
         self.active = gone_back(self.active.take(), &self.flat, self.cuts.as_slice());
+        self.range = narrowed(self.range.take(), &self.flat, self.cuts.as_slice());
     }
 
     /// Remembers which cuts cover the others now, for a truncation to as many cuts. The cuts and their room stay.
@@ -286,12 +336,22 @@ impl Pool {
         Ok(())
     }
 
+    /// Keeps the ends of all slopes from now on; none where the cuts are not side by side, where too many cuts have the least slopes, and
+    /// where memory was refused. The cuts and their room stay.
+    pub(crate) fn keep_range(&mut self, alloc: Global)
+        ensures { self.new ≡ self.old }
+    {
+        if self.range.is_none() {
+            self.range = range_of(alloc, &self.flat, self.cuts.as_slice());
+        }
+    }
+
     /// Lends the cuts side by side, where they are kept.
     pub(crate) fn packed(&self) -> Option<PackedCuts<'_>>
         ensures { IfSome result (λ packed. packed ≡ map packed_cut self.now.cuts) }
     {
         let list = self.flat.list()?;
-        Some(PackedCuts::new(list, lent(&self.active), self.flat.falling()))
+        Some(PackedCuts::new(list, lent(&self.active), ends(&self.range)))
     }
 
     /// Gives the greatest value over a box, where it is kept.

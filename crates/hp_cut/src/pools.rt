@@ -140,7 +140,7 @@ impl Pools {
     }
 
     /// Makes a node's cuts ready for stage problems of a predecessor from now on. Keeps them side by side once more, where they
-    /// have few binary digits. Keeps those by which all are covered over the states that may leave the predecessor, one box per
+    /// have few binary digits, with the ends of their slopes. Keeps those by which all are covered over the states that may leave the predecessor, one box per
     /// state, and the greatest of their values there. It is a matter of time alone. Where a node's cuts are cut back, those by which
     /// all are covered are dropped, unless so many cuts were marked, and the other lists stay. [`Memory`] where memory was refused.
     /// The cuts and their room stay in either case.
@@ -150,6 +150,7 @@ impl Pools {
     {
         let pool = &mut self.lists[node as usize];
         pool.keep_flat(alloc);
+        pool.keep_range(alloc);
         pool.keep_active(alloc, boxes)?;
         pool.keep_box_maximum(alloc, boxes)
     }

@@ -1,7 +1,8 @@
 -- Cuts that are covered by others at every state of a box.
-use Rattle.std.specs.Prelude.{◌≡◌, ℕ, suc, ◌<◌, ◌≤◌, ◌^◌, ℤ, pos, ◌+ℤ◌, ◌*ℤ◌, ◌≤ℤ◌, ◌<ℤ◌, List, [], ◌∷◌, length, map, get_or, ⊤, ◌⊎◌}
+use Rattle.std.specs.Prelude.{◌≡◌, ℕ, suc, ◌<◌, ◌≤◌, ◌^◌, ℤ, pos, ◌+ℤ◌, ◌*ℤ◌, ◌≤ℤ◌, ◌<ℤ◌, List, [], ◌∷◌, length, map, get_or, ⊤, ◌⊎◌, IfSome}
 use Rattle.hp_num.specs.Sums.{entry, dot}
 use Rattle.hp_solver.specs.PackedCut.{PackedCut, no_packed_cut}
+use Rattle.hp_solver.specs.Coarse.{IsCoarse}
 use Rattle.hp_solver.specs.declared.packed.ActiveCuts.{ActiveCuts}
 
 -- the value of a cut at states of the scale 2^24, at the scale 2^48
@@ -42,7 +43,8 @@ pub record CoverAll (all : List PackedCut) (places : List ℕ) (lows highs : Lis
   pub rising : AreRisingPlaces 0 (length all) places
   pub covered : (j : ℕ) → j < length all → IsCovered all lows highs places j
 
--- some cuts cover all, and stand side by side once more
+-- some cuts cover all, stand side by side once more, and are in fewer binary digits what these are
 pub record AreActive (all : List PackedCut) (a : ActiveCuts) : Type 0 where
   pub cover : CoverAll all a.places.now a.lows.now a.highs.now
   pub same : a.cuts ≡ map (packed_cut_at all) a.places.now
+  pub coarse : IfSome a.coarse (IsCoarse a.cuts)

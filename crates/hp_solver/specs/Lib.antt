@@ -1,8 +1,9 @@
 pub mod Numbers
 pub mod Duals
-pub mod Falling
 pub mod PackedCut
+pub mod Coarse
 pub mod Covering
+pub mod SlopeEnds
 pub mod Packed
 pub mod StageLps
 pub mod Proper

@@ -12,7 +12,9 @@ pub mod stand_ins;
 
 pub use duals::Duals;
 pub use fixed::Fx;
-pub use packed::{ActiveCuts, CutList, Falling, Out, PackedCuts, PackedView, slope_at};
+pub use packed::{
+    ActiveCuts, CoarseCuts, CutList, Out, PackedCuts, PackedView, SlopeEnds, slope_at,
+};
 pub use programs::{Answer, Column, Kind, LpRow, Program};
 pub use row_writing::blank_row;
 pub use solver::Solver;

@@ -4,7 +4,7 @@ ghost use Rattle.hp_num.specs.Sums.{entry};
 ghost use Rattle.hp_solver.specs.PackedCut.{cuts_of, no_packed_cut, ArePacked, IsSmallCut};
 ghost use Rattle.hp_solver.specs.Packed.{rows_of, IsView};
 ghost use Rattle.hp_solver.specs.Covering.{AreActive};
-ghost use Rattle.hp_solver.specs.Falling.{IsFalling};
+ghost use Rattle.hp_solver.specs.SlopeEnds.{AreSlopeEnds};
 
 use hp_num::List;
 use std::marker::Model;
@@ -88,6 +88,21 @@ impl<'a> CutList<'a> {
     }
 }
 
+/// Cuts once more in fewer binary digits: their values are never above those that these have, where no state is below 0. No cut
+/// rises with a state.
+#[derive(Clone, Copy)]
+pub struct CoarseCuts<'a> {
+    /// For each cut at least its height, at scale 2^48 without the last digits, as many as both shifts say together.
+    pub heights: &'a [i64],
+    /// For each state a list of how far each cut falls with it at least, at scale 2^24 without the last digits, as many as the shift
+    /// of slopes says.
+    pub steeps: &'a [Vec<u32>],
+    /// The number of binary digits that slopes are without.
+    pub slope_shift: u32,
+    /// The number of binary digits that states are to be without.
+    pub state_shift: u32,
+}
+
 /// Some cuts of a list, of which each other one is covered by one of these: at every state of a box it is the lesser, or it is not
 /// the greater and does not stand before.
 #[derive(Drop)]
@@ -100,15 +115,17 @@ pub struct ActiveCuts<'a> {
     pub highs: &'a [i64],
     /// The cuts at these places, side by side in their order.
     pub cuts: CutList<'a>,
+    /// The same cuts in fewer binary digits, where these are known.
+    pub coarse: Option<CoarseCuts<'a>>,
 }
 
-/// Limits of cuts none of which rises with a state: no slope is above 0.
+/// The ends between which slopes of some cuts have their binary digits.
 #[derive(Clone, Copy)]
-pub struct Falling {
-    /// No height is further from 0, at scale 2^24.
-    pub highest: u64,
-    /// No slope is further below 0, at scale 2^24.
-    pub steepest: u64,
+pub struct SlopeEnds<'a> {
+    /// For each state the greatest size of a cut's slope, at scale 2^24.
+    pub greatest: &'a [i64],
+    /// The places of some cuts: each other one that is not level has in each state at least as many binary digits as one of these.
+    pub least: &'a [u32],
 }
 
 /// Cuts of one node, side by side, at scale 2^24. Contracts see them as a list of cuts.
@@ -116,37 +133,33 @@ pub struct Falling {
 pub struct PackedCuts<'a> {
     all: CutList<'a>,
     active: Option<ActiveCuts<'a>>,
-    falling: Option<Falling>,
+    ends: Option<SlopeEnds<'a>>,
 }
 
 impl<'a> Model for PackedCuts<'a> {
     ghost use Rattle.std.specs.Prelude.{List};
     ghost use Rattle.hp_solver.specs.PackedCut.{PackedCut};
-    ghost use Rattle.hp_solver.specs.Falling.{AreKnown};
+    ghost use Rattle.hp_solver.specs.SlopeEnds.{AreKnown};
 
     ghost Value = { List PackedCut };
 
     ghost view = { λ c. c.all };
 
-    ghost invariant = { λ c. AreKnown c.all c.active c.falling };
+    ghost invariant = { λ c. AreKnown c.all c.active c.ends };
 }
 
 impl<'a> PackedCuts<'a> {
-    /// Joins the cuts of a list with those that cover the others and with the limits of all, where these are known.
+    /// Joins the cuts of a list with those that cover the others and with the ends of all slopes, where these are known.
     pub fn new(
         all: CutList<'a>,
         active: Option<ActiveCuts<'a>>,
-        falling: Option<Falling>,
+        ends: Option<SlopeEnds<'a>>,
     ) -> PackedCuts<'a>
         requires active { IfSome active (AreActive all) }
-        requires falling { IfSome falling (λ f. All (IsFalling f) all) }
+        requires ends { IfSome ends (AreSlopeEnds all) }
         ensures { result ≡ all.entry }
     {
-        PackedCuts {
-            all,
-            active,
-            falling,
-        }
+        PackedCuts { all, active, ends }
     }
 
     /// Gives the number of cuts.
@@ -199,11 +212,11 @@ impl<'a> PackedCuts<'a> {
         self.active.as_ref()
     }
 
-    /// Gives the limits of the cuts, where these are known and no cut rises with a state.
-    pub fn falling(&self) -> Option<Falling>
-        ensures { IfSome result (λ f. All (IsFalling f) self.now) }
+    /// Gives the ends of the slopes of all cuts, where these are known.
+    pub fn ends(&self) -> Option<SlopeEnds<'a>>
+        ensures { IfSome result (AreSlopeEnds self.now) }
     {
-        self.falling
+        self.ends
     }
 }
 

@@ -1,5 +1,5 @@
 -- Cuts that are known to leave a span as it is.
-use Rattle.std.proofs.Common.{◌≡◌, SFits, ℕ, zero, suc, ◌+◌, ◌-◌, ◌^◌, ◌<◌, ◌≤◌, ℤ, pos, negsuc, ◌+ℤ◌, ◌-ℤ◌, ◌≤ℤ◌, nat_abs, nat_le, Bool, true, false, cond, List, [], ◌∷◌, length, take, get_or, set, slice_get, min, ◌==◌, Some, All, arith, refl, ap, sym, subst, ◌∙◌}
+use Rattle.std.proofs.Common.{◌≡◌, SFits, ℕ, zero, suc, ◌+◌, ◌^◌, ◌<◌, ◌≤◌, ℤ, pos, negsuc, ◌+ℤ◌, ◌-ℤ◌, ◌≤ℤ◌, nat_abs, nat_le, Bool, true, false, cond, List, [], ◌∷◌, length, take, get_or, set, slice_get, min, ◌==◌, Some, All, arith, refl, ap, sym, subst, ◌∙◌}
 use Rattle.std.specs.Int.{int_min, int_max}
 use Rattle.std.specs.Ordering.{int_eq}
 use Rattle.std.proofs.lemmas.Bool.Decides.{nat_tests}

@@ -11,6 +11,7 @@ pub mod Passes
 pub mod Rising
 pub mod Shapes
 pub mod Standing
+pub mod SlopeEnds
 pub mod Waits
 pub mod Walking
 pub mod Weights

@@ -1,7 +1,9 @@
 // Cuts that stand side by side: the spans of their slopes' digits, and whether they wait.
-ghost use Rattle.std.specs.Prelude.{◌≡◌, ◌≤◌, ◌<◌, ◌^◌, ◌≤ℤ◌, ℤ, pos, List, true, false, length, map, replicate, nat_abs, nat_le, get_or, All, None, IfOk, OnOk};
+ghost use Rattle.std.specs.Prelude.{◌≡◌, ◌≤◌, ◌<◌, ◌^◌, ◌≤ℤ◌, ℕ, ℤ, pos, List, true, false, length, map, replicate, nat_abs, nat_le, get_or, All, None, IfOk, OnOk};
 ghost use Rattle.std.specs.List.{list_all};
 ghost use Rattle.hp_solver.specs.PackedCut.{PackedCut, IsSmallCut};
+ghost use Rattle.hp_solver.specs.Covering.{packed_cut_at};
+ghost use Rattle.hp_solver.specs.SlopeEnds.{AreSlopeEnds};
 ghost use Rattle.hp_solver.specs.Packed.{packed_row, rows_of, IsView};
 ghost use Rattle.hp_solver.specs.declared.packed.Out.{Out};
 ghost use Rattle.hp_solver.specs.declared.programs.LpRow.{LpRow};
@@ -18,7 +20,7 @@ use crate::fences::{Lead, fence, is_kept, no_lead};
 use crate::slope_digits::most_digits;
 use crate::spans::{Span, grow};
 use hp_num::{List, Memory};
-use hp_solver::{Out, PackedCuts, PackedView};
+use hp_solver::{Out, PackedCuts, PackedView, SlopeEnds};
 use std::alloc::Global;
 
 // The greatest number of states.
@@ -154,8 +156,60 @@ fn with_cut(
     grow_by_cut(span, lead, limits, lifts, slopes)
 }
 
-// Finds the span of the tops of a successor's cuts, from a span on.
-fn grow_by_cuts(
+// Tells whether no top was 0, and one more is not.
+fn are_above_with(are_above: bool, top: i32) -> bool
+    requires { pos 0 ≤ℤ top }
+    ensures former { result ≡ true → are_above ≡ true }
+    ensures own { result ≡ true → pos 1 ≤ℤ top }
+{
+    are_above && top != 0
+}
+
+// Finds the span of the tops of the cuts at some places, from a span on, and whether no top is 0.
+fn grow_by_places(
+    span: Option<Span>,
+    lifts: &[(u32, i32)],
+    cuts: &PackedCuts,
+    places: &[u32],
+) -> (Option<Span>, bool)
+    requires lifts { AreLifts lifts.now }
+    requires span { AreBetween (pos 0) (pos 640) span }
+    requires there { All (λ (p : ℕ). p < length cuts.now) places.now }
+    ensures value { result.0 ≡ walk (λ i s (p : ℕ). grown_above_zero s (most_digits lifts.now (packed_cut_at cuts.now p).slopes)) 0 span places.now }
+    ensures above { result.1 ≡ true → All (λ (p : ℕ). pos 1 ≤ℤ most_digits lifts.now (packed_cut_at cuts.now p).slopes) places.now }
+    ensures span { AreBetween (pos 0) (pos 640) result.0 }
+{
+    let mut span = span;
+    let mut are_above = true;
+    for k in 0..places.len() {
+        let top = most_digits(lifts, cuts.slopes(places[k] as usize));
+        are_above = are_above_with(are_above, top);
+        span = grow_above_zero(span, top);
+    }
+    (span, are_above)
+}
+
+// Finds the span of the tops of a successor's cuts, from a span on, by the ends of their slopes, and whether it is so.
+fn grow_by_ends(
+    span: Option<Span>,
+    lifts: &[(u32, i32)],
+    cuts: &PackedCuts,
+    ends: &SlopeEnds,
+) -> (Option<Span>, bool)
+    requires lifts { AreLifts lifts.now }
+    requires span { AreBetween (pos 0) (pos 640) span }
+    requires ends { AreSlopeEnds cuts.now ends.now }
+    requires small { All IsSmallCut cuts.now }
+    ensures value { result.1 ≡ true → result.0 ≡ walk (λ i s (c : PackedCut). grown_above_zero s (most_digits lifts.now c.slopes)) 0 span cuts.now }
+    ensures span { AreBetween (pos 0) (pos 640) result.0 }
+{
+    let (grown, are_above) = grow_by_places(span, lifts, cuts, ends.least);
+    let top = most_digits(lifts, ends.greatest);
+    (grow_above_zero(grown, top), are_above)
+}
+
+// Finds the span of the tops of a successor's cuts, from a span on, one cut after the other.
+fn grow_by_all(
     span: Option<Span>,
     limits: &mut [u64],
     lifts: &[(u32, i32)],
@@ -177,6 +231,31 @@ fn grow_by_cuts(
         lead = led;
     }
     span
+}
+
+// Finds the span of the tops of a successor's cuts, from a span on.
+fn grow_by_cuts(
+    span: Option<Span>,
+    limits: &mut [u64],
+    lifts: &[(u32, i32)],
+    cuts: &PackedCuts,
+) -> Option<Span>
+    requires lifts { AreLifts lifts.now }
+    requires span { AreBetween (pos 0) (pos 640) span }
+    requires limits { 50 ≤ length limits.old }
+    ensures value { result ≡ walk (λ i s (c : PackedCut). grown_above_zero s (most_digits lifts.now c.slopes)) 0 span cuts.now }
+    ensures span { AreBetween (pos 0) (pos 640) result }
+    ensures small { All (λ (c : PackedCut). All (λ s. nat_abs s < 2 ^ 57) c.slopes) cuts.now }
+    ensures limits { length limits.new ≡ length limits.old }
+{
+    let _ = cuts.states();
+    if let Some(ends) = cuts.ends() {
+        let (grown, is_so) = grow_by_ends(span, lifts, cuts, &ends);
+        if is_so {
+            return grown;
+        }
+    }
+    grow_by_all(span, limits, lifts, cuts)
 }
 
 // Puts the tops of the cuts in one column to the spans of successors' columns.

@@ -1,13 +1,11 @@
 -- Find the greatest of some cuts by their numbers, and turn these into places.
-use Rattle.std.proofs.Common.{◌≡◌, ◌∙◌, ℕ, suc, ◌+◌, ◌<◌, ◌^◌, ℤ, Bool, true, false, cond, int_lt, List, [], ◌∷◌, length, map, get_or, All, Option, Some, None, IfSome, arith, refl, ap, sym, subst}
+use Rattle.std.proofs.Common.{◌≡◌, ◌∙◌, ℕ, suc, ◌+◌, ◌<◌, ◌^◌, ℤ, Bool, true, false, cond, int_lt, List, [], ◌∷◌, length, map, get_or, All, Option, Some, None, arith, refl, ap, sym, subst}
 use Rattle.std.specs.Option.{option_map}
 use Rattle.std.proofs.lemmas.Grind.{common_steps}
 use Rattle.std.proofs.lemmas.Int.{ints}
 use Rattle.std.proofs.lemmas.List.{get_or-map, length-map}
 use Rattle.hp_solver.specs.PackedCut.{PackedCut, no_packed_cut}
 use Rattle.hp_solver.specs.Covering.{value_of, packed_cut_at}
-use Rattle.hp_solver.specs.Falling.{IsFalling}
-use Rattle.hp_solver.specs.declared.packed.Falling.{Falling}
 use Rattle.hp_warm_scale.specs.Walks.{walk}
 use Rattle.hp_warm_scan.specs.Values.{Valued, greater_valued}
 use Rattle.hp_warm_scan.specs.Packed.{with_program_row, greater_or}
@@ -62,8 +60,3 @@ pub holds_at : (P : PackedCut → Type 0) (all cuts : List PackedCut) (ps : List
 holds_at P all cuts ps e below holds k d l =
     let m : k < length ps = omega (arith, l, ap length e, length-map ps (packed_cut_at all)) in
     subst P (sym (ap (λ (cs : List PackedCut). get_or cs k d) e ∙ get_or-map (packed_cut_at all) ps k 0 d m)) (holds (get_or ps k 0) no_packed_cut (below k 0 m))
-
--- limits of all cuts are limits of those at places
-pub falls_at : (known : Option Falling) (all cuts : List PackedCut) (ps : List ℕ) → cuts ≡ map (packed_cut_at all) ps → All (λ (p : ℕ). p < length all) ps → IfSome known (λ f. All (IsFalling f) all) → IfSome known (λ f. All (IsFalling f) cuts)
-falls_at None all cuts ps e below h = tt
-falls_at (Some f) all cuts ps e below h = holds_at (IsFalling f) all cuts ps e below h

@@ -5,21 +5,21 @@ ghost use Rattle.hp_num.specs.Sums.{entry, dot};
 ghost use Rattle.hp_solver.specs.PackedCut.{PackedCut};
 ghost use Rattle.hp_solver.specs.Packed.{packed_row, rows_of, IsView};
 ghost use Rattle.hp_solver.specs.Covering.{value_of, packed_cut_at, AreInside};
-ghost use Rattle.hp_solver.specs.Falling.{IsFalling};
+ghost use Rattle.hp_solver.specs.Coarse.{IsCoarse};
 ghost use Rattle.hp_solver.specs.declared.packed.Out.{Out};
 ghost use Rattle.hp_solver.specs.declared.programs.LpRow.{LpRow};
 ghost use Rattle.hp_warm_scale.specs.Walks.{walk};
 ghost use Rattle.hp_warm_scale.specs.Waiting.{waits};
-ghost use Rattle.hp_warm_scan.specs.Bounds.{IsBounded, ArePassed};
+ghost use Rattle.hp_warm_scan.specs.Bounds.{AreBounds};
 ghost use Rattle.hp_warm_scan.specs.Values.{greater_valued, greatest_step, IsValueWithin};
 ghost use Rattle.hp_warm_scan.specs.Packed.{short_or_zero, added, with_leaving, leaving_of, with_program_row, greater_or};
 
-use crate::bounds::{are_bounded, bound, limit_of};
+use crate::bounds::{PART, bound, is_fit, limit_of, next_above};
 use crate::greatest::is_greater;
 use crate::refilled::refill;
 use crate::values::{plus, product, raised, short};
 use hp_num::{List, Memory};
-use hp_solver::{ActiveCuts, CutList, Falling, Out, PackedCuts, PackedView};
+use hp_solver::{ActiveCuts, CoarseCuts, CutList, Out, PackedCuts, PackedView};
 
 /// Cuts among which the greatest are looked up: the columns in which cuts wait, the states at which they are compared, and the
 /// program's row of the first.
@@ -185,67 +185,132 @@ fn greatest_from(best: (usize, i128), from: usize, cuts: &CutList, leaving: &[i6
     best
 }
 
-// Finds a bound of the value of a cut of a list, in units.
-fn bound_at(cuts: &CutList, place: usize, leaving: &[i64]) -> i64
-    requires there { place < length cuts.now }
-    requires counts { All (λ (c : PackedCut). length c.slopes ≡ length leaving.now) cuts.now }
-    requires bounded { All (IsBounded leaving.now) cuts.now }
-    ensures value { value_of (packed_cut_at cuts.now place) leaving.now ≤ℤ (result *ℤ pos (2 ^ 24)) }
-    ensures short { nat_abs result ≤ 2 ^ 62 }
+// Gives the number of a cut of a list by that of the first of a part and its place there.
+fn number_in(cuts: &CutList, first: usize, place: usize) -> usize
+    requires { first + place < length cuts.now }
+    ensures { result ≡ first + place }
 {
-    bound(short(cuts.height(place)), cuts.slopes(place), leaving)
+    let _ = cuts.len();
+    first + place
 }
 
-// Finds the first cut from a number on whose bound is above a limit. The number of cuts where none is.
-fn next_above(cuts: &CutList, from: usize, limit: i64, leaving: &[i64]) -> usize
-    requires from { from ≤ length cuts.now }
+// Finds the greatest of a cut's number with its value and of the cuts from a number on that are bounded. Most bounds are not above
+// the greatest value so far, and nothing more is to be done for these cuts.
+fn greatest_in_part(
+    best: (usize, i128),
+    cuts: &CutList,
+    from: usize,
+    bounds: &[i64],
+    shift: u32,
+    leaving: &[i64],
+) -> (usize, i128)
+    requires there { from + length bounds.now ≤ length cuts.now }
+    requires shift { shift ≤ 120 }
+    requires few { length leaving.now ≤ 50 }
     requires counts { All (λ (c : PackedCut). length c.slopes ≡ length leaving.now) cuts.now }
-    requires bounded { All (IsBounded leaving.now) cuts.now }
-    ensures there { result ≤ length cuts.now }
-    ensures behind { from ≤ result }
-    ensures passed { ArePassed cuts.now leaving.now limit from result }
+    requires bounds { AreBounds shift cuts.now leaving.now from (length leaving.now) bounds.now }
+    ensures { walk (λ i b (c : PackedCut). greater_valued b (i, value_of c leaving.now)) from (Some best) (drop from cuts.now) ≡ walk (λ i b (c : PackedCut). greater_valued b (i, value_of c leaving.now)) (from + length bounds.now) (Some result) (drop (from + length bounds.now) cuts.now) }
 {
-    let count = cuts.len();
-    for k in from..count {
-        if limit < bound_at(cuts, k, leaving) {
-            return k;
-        }
-    }
-    count
-}
-
-// Finds the greatest of a cut's number with its value and of the cuts behind the first, which are bounded. Most bounds are not
-// above the greatest value so far, and nothing more is to be done for these cuts.
-fn greatest_bounded(one: (usize, i128), cuts: &CutList, leaving: &[i64]) -> (usize, i128)
-    requires some { 1 ≤ length cuts.now }
-    requires counts { All (λ (c : PackedCut). length c.slopes ≡ length leaving.now) cuts.now }
-    requires bounded { All (IsBounded leaving.now) cuts.now }
-    ensures { Some result ≡ walk (λ i b (c : PackedCut). greater_valued b (i, value_of c leaving.now)) 1 (Some one) (drop 1 cuts.now) }
-{
-    let mut best = one;
-    let mut k = next_above(cuts, 1, limit_of(best.1), leaving);
-    while k < cuts.len() {
-        best = greater_of(best, k, value_at(cuts, k, leaving));
-        k = next_above(cuts, k + 1, limit_of(best.1), leaving);
+    let mut best = best;
+    let mut k = next_above(bounds, 0, limit_of(best.1, shift));
+    while k < bounds.len() {
+        let number = number_in(cuts, from, k);
+        best = greater_of(best, number, value_at(cuts, number, leaving));
+        k = next_above(bounds, k + 1, limit_of(best.1, shift));
     }
     best
 }
 
-// Finds the number and the value of the greatest of some cuts, by their limits, where these are known.
-fn greatest_of(cuts: &CutList, limits: Option<Falling>, leaving: &[i64]) -> Option<(usize, i128)>
+// Bounds the cuts from a number on, and finds the greatest of a cut's number with its value and of these. None where they are not
+// bounded.
+fn take_part(
+    best: (usize, i128),
+    cuts: &CutList,
+    coarse: &CoarseCuts,
+    from: usize,
+    leaving: &[i64],
+    bounds: &mut [i64],
+) -> Option<(usize, i128)>
+    requires coarse { IsCoarse cuts.now coarse.now }
+    requires part { from + length bounds.old ≤ length cuts.now }
+    requires most { length bounds.old ≤ 64 }
+    requires few { length leaving.now ≤ 50 }
+    requires lists { length coarse.now.steeps.now ≡ length leaving.now }
     requires counts { All (λ (c : PackedCut). length c.slopes ≡ length leaving.now) cuts.now }
-    requires limits { IfSome limits (λ f. All (IsFalling f) cuts.now) }
+    ensures value { IfSome result (λ r. walk (λ i b (c : PackedCut). greater_valued b (i, value_of c leaving.now)) from (Some best) (drop from cuts.now) ≡ walk (λ i b (c : PackedCut). greater_valued b (i, value_of c leaving.now)) (from + length bounds.old) (Some r) (drop (from + length bounds.old) cuts.now)) }
+    ensures count { length bounds.new ≡ length bounds.old }
+{
+    if bound(bounds, coarse, cuts, from, leaving) {
+        let shift = coarse.slope_shift + coarse.state_shift;
+        Some(greatest_in_part(best, cuts, from, bounds, shift, leaving))
+    } else {
+        None
+    }
+}
+
+// Finds the greatest of a cut's number with its value and of the cuts behind the first, by bounds of a few of them at once. None
+// where they are not bounded.
+fn greatest_bounded(
+    one: (usize, i128),
+    cuts: &CutList,
+    coarse: &CoarseCuts,
+    leaving: &[i64],
+) -> Option<(usize, i128)>
+    requires some { 1 ≤ length cuts.now }
+    requires coarse { IsCoarse cuts.now coarse.now }
+    requires few { length leaving.now ≤ 50 }
+    requires lists { length coarse.now.steeps.now ≡ length leaving.now }
+    requires counts { All (λ (c : PackedCut). length c.slopes ≡ length leaving.now) cuts.now }
+    ensures { IfSome result (λ r. Some r ≡ walk (λ i b (c : PackedCut). greater_valued b (i, value_of c leaving.now)) 1 (Some one) (drop 1 cuts.now)) }
+{
+    let mut bounds: [i64; PART] = [0; PART];
+    let mut best = one;
+    let mut from = 1;
+    while from < cuts.len() {
+        let count = PART.min(cuts.len() - from);
+        match take_part(best, cuts, coarse, from, leaving, &mut bounds[..count]) {
+            None => return None,
+            Some(found) => best = found,
+        }
+        from += count;
+    }
+    Some(best)
+}
+
+// Finds the greatest of a cut's number with its value and of the cuts behind the first, by their coarse numbers, where these are
+// known and bound them.
+fn greatest_behind(
+    one: (usize, i128),
+    cuts: &CutList,
+    coarse: Option<CoarseCuts>,
+    leaving: &[i64],
+) -> (usize, i128)
+    requires some { 1 ≤ length cuts.now }
+    requires counts { All (λ (c : PackedCut). length c.slopes ≡ length leaving.now) cuts.now }
+    requires coarse { IfSome coarse (IsCoarse cuts.now) }
+    ensures { Some result ≡ walk (λ i b (c : PackedCut). greater_valued b (i, value_of c leaving.now)) 1 (Some one) (drop 1 cuts.now) }
+{
+    if let Some(coarse) = coarse {
+        if is_fit(&coarse, leaving) {
+            if let Some(best) = greatest_bounded(one, cuts, &coarse, leaving) {
+                return best;
+            }
+        }
+    }
+    greatest_from(one, 1, cuts, leaving)
+}
+
+// Finds the number and the value of the greatest of some cuts, by their coarse numbers, where these are known.
+fn greatest_of(cuts: &CutList, coarse: Option<CoarseCuts>, leaving: &[i64]) -> Option<(usize, i128)>
+    requires counts { All (λ (c : PackedCut). length c.slopes ≡ length leaving.now) cuts.now }
+    requires coarse { IfSome coarse (IsCoarse cuts.now) }
     ensures { result ≡ walk (λ i b (c : PackedCut). greater_valued b (i, value_of c leaving.now)) 0 None cuts.now }
 {
     if cuts.len() == 0 {
         return None;
     }
     let one = (0, value_at(cuts, 0, leaving));
-    if are_bounded(limits, leaving) {
-        Some(greatest_bounded(one, cuts, leaving))
-    } else {
-        Some(greatest_from(one, 1, cuts, leaving))
-    }
+    Some(greatest_behind(one, cuts, coarse, leaving))
 }
 
 // Gives the program's row of the cut whose place has a number in a list. The first cut is the program's row `first`.
@@ -265,15 +330,14 @@ fn take_active(
     best: Option<(usize, i128)>,
     first: usize,
     active: &ActiveCuts,
-    limits: Option<Falling>,
     leaving: &[i64],
 ) -> Option<(usize, i128)>
     requires rows { All (λ (p : ℕ). first + p < 2 ^ 64) active.now.places.now }
     requires counts { All (λ (c : PackedCut). length c.slopes ≡ length leaving.now) active.now.cuts }
-    requires limits { IfSome limits (λ f. All (IsFalling f) active.now.cuts) }
+    requires coarse { IfSome active.now.coarse (IsCoarse active.now.cuts) }
     ensures { result ≡ greater_or best (option_map (with_program_row first active.now.places.now) (walk (λ i b (c : PackedCut). greater_valued b (i, value_of c leaving.now)) 0 None active.now.cuts)) }
 {
-    match greatest_of(&active.cuts, limits, leaving) {
+    match greatest_of(&active.cuts, active.coarse, leaving) {
         Some((number, value)) => greater(best, row_of(first, active.places, number), value),
         None => best,
     }
@@ -316,7 +380,7 @@ fn take_best(
 {
     if let Some(active) = cuts.active() {
         if are_inside(active.lows, active.highs, leaving) {
-            return take_active(best, first, active, cuts.falling(), leaving);
+            return take_active(best, first, active, leaving);
         }
     }
     take_cuts(best, first, cuts.list(), leaving)

@@ -174,6 +174,30 @@ fn keeps_covering(alloc: Global, pools: &mut Pools) -> bool {
         && are_covering(pools, [0, 3].as_slice())
 }
 
+// Tells whether the greatest slope of node 0 and the places of cuts with the fewest binary digits are these.
+fn are_ends(pools: &Pools, greatest: &[i64], least: &[u32]) -> bool {
+    if pools.nodes() == 0 {
+        return false;
+    }
+    match pools.packed(0) {
+        Some(cuts) => match cuts.ends() {
+            Some(ends) => ends.greatest == greatest && ends.least == least,
+            None => false,
+        },
+        None => false,
+    }
+}
+
+// Tells whether the ends of slopes are kept: the level cut does not count, and the cut of slope -2 does not undercut that of -1.
+fn keeps_ends(alloc: Global, pools: &mut Pools) -> bool {
+    pushes(alloc, pools, 0, 9, 0)
+        && prepares(alloc, pools)
+        && pushes(alloc, pools, 0, 9, -2)
+        && are_ends(pools, [2].as_slice(), [1].as_slice())
+        && pushes(alloc, pools, 0, 4, -1)
+        && are_ends(pools, [2].as_slice(), [1, 2].as_slice())
+}
+
 // Marks the first cut of node 0 and goes back to it once there are more.
 fn goes_back_to_mark(alloc: Global, pools: &mut Pools) -> bool {
     if !pushes(alloc, pools, 0, 9, -2) || !prepares(alloc, pools) || pools.nodes() == 0 {
@@ -196,6 +220,49 @@ fn keeps_what_is_marked(rt: HostRuntime) -> Result<(), Fail> {
 fn keeps_the_places_of_covering_cuts(rt: HostRuntime) -> Result<(), Fail> {
     let mut pools = Pools::new(rt.alloc(), 1)?;
     assert!(rt; keeps_covering(rt.alloc(), &mut pools));
+    Ok(())
+}
+
+// The height of a covering cut in fewer digits, and how far it falls with the first state.
+fn coarse_numbers(cuts: &PackedCuts, place: usize) -> Option<(i64, u32)> {
+    let coarse = cuts.active()?.coarse?;
+    let height = coarse.heights.get(place)?;
+    let steep = coarse.steeps.first()?.as_slice().get(place)?;
+    Some((*height, *steep))
+}
+
+// Gives these numbers of a covering cut of node 0.
+fn coarse(pools: &Pools, place: usize) -> Option<(i64, u32)> {
+    if pools.nodes() > 0 {
+        let cuts = pools.packed(0)?;
+        coarse_numbers(&cuts, place)
+    } else {
+        None
+    }
+}
+
+// Tells whether covering cuts are kept in fewer digits until one rises: of a state up to 10 go 4 digits, and 20 - 3x covers 9 - 2x.
+fn keeps_coarse(alloc: Global, pools: &mut Pools) -> bool {
+    pushes(alloc, pools, 0, 9, -2)
+        && prepares(alloc, pools)
+        && coarse(pools, 0) == Some((9 << 20, 2))
+        && pushes(alloc, pools, 0, 20, -3)
+        && coarse(pools, 0) == Some((20 << 20, 3))
+        && pushes(alloc, pools, 0, 30, 1)
+        && coarse(pools, 0).is_none()
+}
+
+#[test]
+fn keeps_covering_cuts_in_fewer_digits(rt: HostRuntime) -> Result<(), Fail> {
+    let mut pools = Pools::new(rt.alloc(), 1)?;
+    assert!(rt; keeps_coarse(rt.alloc(), &mut pools));
+    Ok(())
+}
+
+#[test]
+fn keeps_the_ends_of_slopes(rt: HostRuntime) -> Result<(), Fail> {
+    let mut pools = Pools::new(rt.alloc(), 1)?;
+    assert!(rt; keeps_ends(rt.alloc(), &mut pools));
     Ok(())
 }
 

@@ -1,7 +1,7 @@
 use Rattle.std.proofs.Common.{◌≡◌, ◌∙◌, length}
 use Rattle.hp_solver.specs.PackedCut.{PackedCut}
 use Rattle.hp_warm_scan.proofs.Covered.{covering_below, covered_same}
-use Rattle.hp_warm_scan.proofs.Numbered.{by_numbers, rows_fit, holds_at, falls_at}
+use Rattle.hp_warm_scan.proofs.Numbered.{by_numbers, rows_fit, holds_at}
 use Rattle.hp_warm_scan.proofs.packed.take_best.Goals as goal
 
 pub take_active-requires-clause-rows : goal.take_active-requires-clause-rows
@@ -14,10 +14,8 @@ take_active-requires-clause-counts c =
     let a = c.in-Some.active.now in
     holds_at (λ (d : PackedCut). length d.slopes ≡ length c.args.leaving.now) c.args.cuts.now a.cuts a.places.now c.in-Some.ensures.same (covering_below c.args.cuts.now a.places.now a.lows.now a.highs.now c.in-Some.ensures.cover) c.requires.counts
 
-pub take_active-requires-clause-limits : goal.take_active-requires-clause-limits
-take_active-requires-clause-limits c =
-    let a = c.in-Some.active.now in
-    falls_at c.falling.result c.args.cuts.now a.cuts a.places.now c.in-Some.ensures.same (covering_below c.args.cuts.now a.places.now a.lows.now a.highs.now c.in-Some.ensures.cover) c.falling.ensures
+pub take_active-requires-clause-coarse : goal.take_active-requires-clause-coarse
+take_active-requires-clause-coarse c = c.in-Some.ensures.coarse
 
 pub returns-then-are_inside : goal.returns-then-are_inside
 returns-then-are_inside c =

@@ -9,4 +9,4 @@ returns-else-is_err c = λ cuts flat.
     let went = sym c.is_err.ensures.value ∙ c.if-is_err.false in
     more cuts c.args.cut.now c.args.self.now c.push.new.self flat c.if-not-self.false
     (c.if-not-takes.ensures.count refl) (c.if-not-takes.ensures.height refl) (c.if-not-takes.ensures.room refl)
-    (not_err r went c.push.ensures.heights) (not_err r went c.push.ensures.slopes) (not_err r went c.push.ensures.small) (c.push.ensures.states) c.push.ensures.limits
+    (not_err r went c.push.ensures.heights) (not_err r went c.push.ensures.slopes) (not_err r went c.push.ensures.small) (c.push.ensures.states)
