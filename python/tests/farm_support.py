@@ -123,8 +123,14 @@ class PlainEngine:
     def workers(self) -> Dict[str, str]:
         return {f"at-{name}": name for name in self.names}
 
-    def ahead(self, run: str, name: str, parts: Sequence[Sequence[bytes]], count: int) -> None:
+    def ahead(self, run: str, name: str, parts: Sequence[Sequence[bytes]], count: int, seeds: Dict[str, Tuple[int, int]]) -> None:
         """These workers take records with their orders alone."""
+
+    def tell(self, run: str, name: str, parts: Sequence[Sequence[bytes]]) -> None:
+        """These workers tell nothing of what they joined."""
+
+    def spent(self, run: str) -> None:
+        """What they take is not known."""
 
     def ready(self, problem: bytes, paths: int) -> None:
         pass
@@ -137,6 +143,9 @@ class PlainEngine:
         lie = self.lies.get(name)
         answer = work.perform(own)
         return PlainCall(answer if lie is None else lie(own, answer))
+
+    def rest(self, run: str, seconds: float) -> None:
+        pass
 
     def wait(self, calls: Iterable[PlainCall], seconds: float) -> None:
         pass

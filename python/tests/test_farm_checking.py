@@ -13,7 +13,7 @@ from unittest import mock
 from farm_support import PROGRAM, Folder, PlainEngine, example, farmed, journal_bytes, number, ran, trained
 
 from hydroplan.farm import checking
-from hydroplan.farm.checking import LATER, Checking
+from hydroplan.farm.checking import LEFT_OVER, NICE, NICER, Checking
 from hydroplan.farm.joined import Front
 from hydroplan.farm.journals import Growing, opened, payloads, read_head
 from hydroplan.farm.program import command
@@ -74,14 +74,28 @@ class Checks(Folder):
             records = list(payloads(file, "it"))
         with Growing(journal, is_synced=False) as growing, delayed(0.5):
             self.assertEqual(len(list(growing.read())), 3)
-            begun = Checking(PROGRAM, journal, self.room / "problem.json", is_waited_for=False)
-            self.assertEqual(os.getpriority(os.PRIO_PROCESS, begun._process.pid), min(os.getpriority(os.PRIO_PROCESS, 0) + LATER, 19))
+            begun = Checking(PROGRAM, journal, self.room / "problem.json", NICE)
+            self.assertEqual(os.getpriority(os.PRIO_PROCESS, begun._process.pid), min(os.getpriority(os.PRIO_PROCESS, 0) + NICER, 19))
             growing.append(records[3:])
             verdict = begun.verdict()
         report = ran(example(NAME), "check", str(whole)).splitlines()
         self.assertEqual(verdict.report, [it for it in report if not it.startswith(("cut ", "rest "))])
         self.assertEqual((verdict.records, f"bound {verdict.bound}"), (8, verdict.report[-1]))
         self.assertGreater(begun.seconds, 0)
+
+    def test_a_check_for_which_somebody_soon_waits(self) -> None:
+        """It takes what others leave of the processors, and then its share; where that is not allowed, it is waited for no longer than so long."""
+        journal = trained(example(NAME), self.room / "journal", 7, 3)
+        (self.room / "problem.json").write_bytes(example(NAME))
+        with delayed(0.5):
+            begun = Checking(PROGRAM, journal, self.room / "problem.json", LEFT_OVER)
+            self.assertEqual(os.sched_getscheduler(begun._process.pid), os.SCHED_IDLE)
+            with mock.patch.object(os, "sched_setscheduler", side_effect=PermissionError):
+                self.assertFalse(begun.hasten(0.01))
+            self.assertEqual([begun.is_held_up(0), begun.is_held_up(100)], [True, False])
+            self.assertTrue(begun.hasten(0))
+            self.assertEqual((os.sched_getscheduler(begun._process.pid), begun.is_held_up(0)), (os.SCHED_OTHER, False))
+            self.assertEqual(begun.verdict().records, 3)
 
     def test_rounds_that_a_check_did_not_know_of_are_proved_too(self) -> None:
         """Where a check takes long to begin, it accepts more than the first round, and the journal is that of other trainings."""
@@ -113,8 +127,8 @@ class Paces(unittest.TestCase):
 
 
 class Beginnings(unittest.TestCase):
-    def begun(self, left: float, trained_since: float) -> List[bool]:
-        """Which checks begin where training ends in so many seconds and a check of all takes one: whether somebody waits for them."""
+    def begun(self, left: float, trained_since: float) -> List[str]:
+        """Which checks begin where training ends in so many seconds and a check of all takes one: what they take."""
         proving = Proving(mock.Mock(count=100), Front(0, 0, Pools([])), mock.Mock(), mock.Mock())
         proving._joined = [mock.Mock()]
         proving._expect(0.2, 5)
@@ -122,14 +136,23 @@ class Beginnings(unittest.TestCase):
         proving.spent.training = trained_since
         with mock.patch.object(Pace, "left", return_value=left), mock.patch.object(proving, "_begin_check") as begin:
             proving.look()
-        return [it.kwargs["is_waited_for"] for it in begin.call_args_list]
+        return [it.args[0] for it in begin.call_args_list]
 
     def test_one_in_a_while_and_the_last_shortly_before_the_end(self) -> None:
         """Checks of 5 and 50 records took 0.2 and 0.6 seconds, so one of 100 takes one."""
         for left, since, begun in (
-            (100, 0, [False]), (2.1, 0, [False]), (1.9, 0, []), (0.7, 0, []), (0.5, 0, [True]), (100, -1, []), (0.5, -1, [True]),
+            (100, 0, [LEFT_OVER]), (2.1, 0, [LEFT_OVER]), (1.9, 0, []), (0.7, 0, []), (0.5, 0, [LEFT_OVER]), (100, -1, []), (0.5, -1, [LEFT_OVER]),
         ):
             self.assertEqual(self.begun(left, since), begun, (left, since))
+
+    def test_one_that_is_held_up(self) -> None:
+        """It is given its share, or another one begins; in the end one that is waited for."""
+        for is_allowed, begun in ((True, []), (False, ["nice"])):
+            proving = Proving(mock.Mock(count=100), Front(0, 0, Pools([])), mock.Mock(), mock.Mock())
+            proving._checking = mock.Mock(**{"is_over.return_value": False, "is_held_up.return_value": True, "hasten.return_value": is_allowed})
+            with mock.patch.object(proving, "_begin_check") as begin:
+                proving.look()
+            self.assertEqual([it.args[0] for it in begin.call_args_list], begun)
 
 
 if __name__ == "__main__":

@@ -24,8 +24,9 @@ from cluster_support import environment, farm_command
 from hydroplan.farm import local_engine
 from hydroplan.farm.engine import Call
 from hydroplan.farm.errors import FarmError
-from hydroplan.farm.living import Living, behind
+from hydroplan.farm.living import Living
 from hydroplan.farm.local_engine import LocalEngine
+from hydroplan.farm.pieces import behind
 from hydroplan.farm.program import KEPT_WORKER, WORKER_VARIABLE
 from hydroplan.farm.simulate_command import SimulationWords, simulate
 from hydroplan.farm.train_command import Words, train
@@ -71,7 +72,7 @@ def noted() -> Iterator[List[Living]]:
         yield begun
 
 
-class OfOneMachine(Folder):
+class TrainingTheSame(Folder):
     """All tests train the same: three stages, in three parts."""
 
     honest: Dict[Optional[int], bytes] = {}
@@ -103,6 +104,8 @@ class OfOneMachine(Folder):
         self.assertEqual(journal.read_bytes(), self.honest[batch])
         return said
 
+
+class OfOneMachine(TrainingTheSame):
     def test_leaves_the_same_bytes(self) -> None:
         """With paths one by one and in batches, with as many workers as parts and with fewer; nobody is named."""
         self.living(LIVING)

@@ -3,6 +3,7 @@ from __future__ import annotations
 
 import os
 import signal
+import time
 import unittest
 from typing import List, Sequence
 
@@ -38,8 +39,8 @@ class JoiningByAWorker(Folder):
         with Growing(trained(example(NAME), own, seed, 2 + count)) as journal:
             return list(journal.read())[2:]
 
-    def joiner(self) -> WorkerJoiner:
-        made = WorkerJoiner(LIVING, example(NAME), self.scratch, 1)
+    def joiner(self, seconds: float = 600) -> WorkerJoiner:
+        made = WorkerJoiner(LIVING, example(NAME), self.scratch, 1, seconds)
         self.addCleanup(made.end)
         return made
 
@@ -77,6 +78,16 @@ class JoiningByAWorker(Folder):
         joiner = self.joiner()
         os.kill(joiner._process.pid, signal.SIGKILL)
         with self.assertRaises(Gone):
+            self.heard(joiner, 1)
+
+    def test_that_is_silent(self) -> None:
+        """It neither ends nor tells: it is as good as gone after so many seconds, and not before it has something to tell."""
+        joiner = self.joiner(seconds=0.2)
+        time.sleep(0.3)
+        self.assertEqual(list(joiner.come()), [])
+        os.kill(joiner._process.pid, signal.SIGSTOP)
+        joiner.give(self.parts)
+        with self.assertRaisesRegex(Gone, "it is silent"):
             self.heard(joiner, 1)
 
 

@@ -4,7 +4,7 @@ from __future__ import annotations
 import time
 from typing import Callable, Dict, Iterator, List, NamedTuple, Optional, Sequence, Set, Tuple, Union
 
-from .engine import DONE, FAILED, GONE, RUNNING, Call, Engine
+from .engine import DONE, FAILED, GONE, RUNNING, Call, Engine, Teller
 from .errors import FarmError, WorkerFault, WorkerLeft
 from .plan import MOST_REFUSALS, Plan
 from .work import BROKEN, LACKING, OTHER_PROGRAM, PROGRAM_FAILED, SIMULATED, TRAINED, Order
@@ -54,6 +54,8 @@ class Asking:
         self._out: Set[str] = set()
         self._lost: Dict[int, int] = {}
         self._alone_since: Optional[float] = None
+        self._ahead: Optional[float] = None
+        """When workers were given their next orders ahead, where they were."""
         self.seconds = seconds
         """After so many seconds a worker that did not answer is silent."""
 
@@ -70,23 +72,36 @@ class Asking:
 
     def give(self, parts: Sequence[int], order_of: Callable[[int, str], Order]) -> None:
         """Gives the orders of parts that nobody has to workers that are free: those who had them last, where that can be."""
-        there = self._engine.workers()
-        free = [it for it in there if self._is_free(it, there[it])]
         waiting = [it for it in parts if it not in self._given]
+        there = self._engine.workers() if waiting else {}
+        free = [it for it in there if self._is_free(it, there[it])]
         for part in sorted(waiting, key=lambda it: self._home.get(it, "") not in free):
             if not free:
                 break
             address = self._chosen(part, free, waiting)
             free.remove(address)
             self._home[part] = address
-            order, begun = order_of(part, address), time.monotonic()
+            order, begun = order_of(part, address), self._ahead or time.monotonic()
             call, is_whole = self._engine.begin(address, order), order["whole"] is not None
             self._given[part] = Given(address, there[address], order["order"], call, begun, order["most"], is_whole)
+        self._ahead = None
         self._require_workers()
 
-    def ahead(self, run: str, name: str, parts: Sequence[Sequence[bytes]], count: int) -> None:
-        """Tells workers of the first of so many parts of a round, whose records their next orders will bring."""
-        self._engine.ahead(run, name, parts, count)
+    def ahead(self, run: str, name: str, parts: Sequence[Sequence[bytes]], count: int, seeds: Sequence[Tuple[int, int]]) -> None:
+        """Tells workers of the first of so many parts of a round, whose records their next orders will bring; `seeds` are those of these orders."""
+        homes = [self._home.get(part, "") for part in range(len(seeds))]
+        are_sure = len(set(homes)) == len(homes) and not self._late
+        self._engine.ahead(run, name, parts, count, dict(zip(homes, seeds)) if are_sure else {})
+        self._ahead = time.monotonic() if are_sure and len(parts) == count else None
+
+    def rest(self, run: str, seconds: float) -> None:
+        """Lets workers that have begun ahead go first, until one of them says something, or so many seconds have passed."""
+        if self._ahead is not None:
+            self._engine.rest(run, seconds)
+
+    def tell(self, run: str, name: str, parts: Sequence[Sequence[bytes]]) -> Optional[Teller]:
+        """The worker that tells a round as it stands joined, if there is one."""
+        return self._engine.tell(run, name, parts)
 
     def _is_free(self, address: str, name: str) -> bool:
         late = self._late.get(address)
@@ -175,6 +190,7 @@ class Asking:
         for given in self._given.values():
             self._late[given.address] = given.call
         self._given.clear()
+        self._ahead = None
 
 
 def _answer(given: Given) -> Union[Answer, WorkerLeft]:

@@ -9,6 +9,7 @@ import mmap
 import os
 import re
 import subprocess
+import time
 from contextlib import suppress
 from pathlib import Path
 from typing import BinaryIO, List, NamedTuple, Optional
@@ -18,8 +19,11 @@ from .program import command
 
 REFUSED = re.compile(r"journal refused: Bad(?:Record|Certificate|Length) iteration (\d+)")
 CUT, REST = b"\ncut ", b"rest "
-LATER = 10
-"""By so much a run that nobody waits for is nicer than those that train."""
+WAITED_FOR, NICE, LEFT_OVER = "waited for", "nice", "left over"
+"""What a run takes of the processors: its share, a small one, or what all others leave."""
+NICER = 10
+"""By so much a run with a small share is nicer than those that train."""
+LOOKS_EVERY = 0.002
 
 
 class Verdict(NamedTuple):
@@ -43,19 +47,43 @@ class Verdict(NamedTuple):
 class Checking:
     """A run of `check` that goes on. Once it is over, `seconds` has the processor time that it took.
 
-    One that nobody waits for takes what time of the processors others leave.
+    One that takes what all others leave may be given its share later.
     """
 
-    def __init__(self, program: Path, journal: Path, problem: Path, is_waited_for: bool = True) -> None:
+    def __init__(self, program: Path, journal: Path, problem: Path, taking: str = WAITED_FOR) -> None:
         self._output, self._errors = _unnamed(journal), _unnamed(journal)
         self.seconds = 0.0
         with problem.open("rb") as source:
             self._process = subprocess.Popen(
                 command(program, ["check", str(journal)]), stdin=source, stdout=self._output, stderr=self._errors,
             )
-        if not is_waited_for:
-            with suppress(OSError):
-                os.setpriority(os.PRIO_PROCESS, self._process.pid, min(os.getpriority(os.PRIO_PROCESS, 0) + LATER, 19))
+        self._begun = time.monotonic()
+        self._is_held = taking == LEFT_OVER and _takes_what_is_left(self._process.pid)
+        if taking == NICE or (taking == LEFT_OVER and not self._is_held):
+            _be_nicer(self._process.pid)
+
+    def is_held_up(self, seconds: float) -> bool:
+        """Whether others have left it too little to end within so many seconds."""
+        return self._is_held and time.monotonic() - self._begun > seconds
+
+    def hasten(self, seconds: float) -> bool:
+        """Lets the run have its share of the processors; false where the system does not allow it, and it is not over within so many seconds."""
+        try:
+            if self._is_held:
+                os.sched_setscheduler(self._process.pid, os.SCHED_OTHER, os.sched_param(0))
+                self._is_held = False
+            return True
+        except OSError:
+            return self._ends_within(seconds)
+
+    def _ends_within(self, seconds: float) -> bool:
+        """Whether it ends within so many seconds."""
+        until = time.monotonic() + seconds
+        while not self.is_over():
+            if time.monotonic() > until:
+                return False
+            time.sleep(LOOKS_EVERY)
+        return True
 
     def is_over(self) -> bool:
         """Whether the run has ended."""
@@ -93,6 +121,21 @@ class Checking:
         if status != 0:
             raise FarmError(line.replace("hydroplan: ", "", 1) or f"check ended with status {status}", max(status, 1))
         return Verdict(None, "", _without_cuts(self._output))
+
+
+def _takes_what_is_left(process: int) -> bool:
+    """Has a process take of the processors what all others leave, where the system knows of that; whether it does."""
+    try:
+        os.sched_setscheduler(process, os.SCHED_IDLE, os.sched_param(0))
+        return True
+    except (AttributeError, OSError):
+        return False
+
+
+def _be_nicer(process: int) -> None:
+    """Lets those that train go first."""
+    with suppress(OSError):
+        os.setpriority(os.PRIO_PROCESS, process, min(os.getpriority(os.PRIO_PROCESS, 0) + NICER, 19))
 
 
 def _unnamed(beside: Path) -> BinaryIO:

@@ -8,7 +8,7 @@ import importlib
 import time
 import warnings
 from contextlib import suppress
-from typing import Any, Callable, Dict, Iterable, Optional, Protocol, Sequence
+from typing import Any, Callable, Dict, Iterable, List, Mapping, Optional, Protocol, Sequence, Tuple
 
 from .errors import FarmError, WorkerFault, WorkerLeft
 from .work import Order, answer, forget
@@ -33,6 +33,16 @@ class Call(Protocol):
         """Forgets the call. The worker may be busy with it for a while."""
 
 
+class Teller(Protocol):
+    """A worker that tells rounds as they stand joined."""
+
+    def told(self) -> Optional[List[bytes]]:
+        """The records of the first round that it was asked to tell and that was not had yet, once all are there. ProcessFault where it is gone."""
+
+    def wait(self, seconds: float) -> None:
+        """Waits until it tells more, and no longer than so many seconds."""
+
+
 class Engine(Protocol):
     """Workers that take orders."""
 
@@ -42,11 +52,23 @@ class Engine(Protocol):
     def ready(self, problem: bytes, paths: int) -> None:
         """Is told of what problem the first orders will be, and of how many paths an iteration, so that workers may begin to read it."""
 
-    def ahead(self, run: str, name: str, parts: Sequence[Sequence[bytes]], count: int) -> None:
-        """Is told of the records of the first parts of a round, of so many in all, which orders behind it will bring: workers may take them before."""
+    def ahead(self, run: str, name: str, parts: Sequence[Sequence[bytes]], count: int, seeds: Mapping[str, Tuple[int, int]]) -> None:
+        """Is told of the records of the first parts of a round, of so many in all, which orders behind it will bring: workers may take them before.
+
+        `seeds` has the seeds and counts of these orders by the addresses of those who will probably have them; they may begin with all parts.
+        """
+
+    def tell(self, run: str, name: str, parts: Sequence[Sequence[bytes]]) -> Optional[Teller]:
+        """The worker that tells a round as it stands joined, where one was asked to ahead, or may be asked now."""
+
+    def spent(self, run: str) -> Optional[float]:
+        """The processor seconds that workers took for a run, where that is known. Of processes that were killed it need not have any."""
 
     def begin(self, address: str, order: Order) -> Call:
         """Gives an order to a worker."""
+
+    def rest(self, run: str, seconds: float) -> None:
+        """Waits until one of the workers that have begun ahead says something, and no longer than so many seconds."""
 
     def wait(self, calls: Iterable[Call], seconds: float) -> None:
         """Waits until one of these calls is not running any more, and no longer than so many seconds."""
@@ -166,12 +188,23 @@ class DaskEngine:
     def ready(self, problem: bytes, paths: int) -> None:
         """As `Engine.ready`. Workers elsewhere are told by their first order."""
 
-    def ahead(self, run: str, name: str, parts: Sequence[Sequence[bytes]], count: int) -> None:
+    def ahead(self, run: str, name: str, parts: Sequence[Sequence[bytes]], count: int, seeds: Mapping[str, Tuple[int, int]]) -> None:
         """As `Engine.ahead`. Workers elsewhere are told by their next order."""
+
+    def tell(self, run: str, name: str, parts: Sequence[Sequence[bytes]]) -> Optional[Teller]:
+        """As `Engine.tell`. What workers elsewhere say of others' records is not asked for."""
+        return None
+
+    def spent(self, run: str) -> Optional[float]:
+        """As `Engine.spent`. Workers elsewhere do not say."""
+        return None
 
     def begin(self, address: str, order: Order) -> Call:
         """As `Engine.begin`."""
         return DaskCall(self._client, address, order, self.workers)
+
+    def rest(self, run: str, seconds: float) -> None:
+        """As `Engine.rest`. Workers elsewhere do not begin ahead."""
 
     def wait(self, calls: Iterable[Call], seconds: float) -> None:
         """As `Engine.wait`."""

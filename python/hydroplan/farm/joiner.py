@@ -15,12 +15,12 @@ from typing import BinaryIO, Iterator, List, NamedTuple, Optional, Sequence, Uni
 from .errors import FarmError
 from .joined import Front, PartFault, front_of, moved_round
 from .journals import DEVICE_FAILED, Growing
-from .living import Piece, behind, joining
+from .living import joining
+from .pieces import MOST_PIECES, Piece, behind
 from .process import PIPE_BYTES, widen
 from .shape import Shape
 
 NICER = 5
-MOST_PIECES = 512
 FAULT, FAILED = b"!", b"?"
 
 

@@ -5,9 +5,10 @@ import fcntl
 import os
 from pathlib import Path
 from types import TracebackType
-from typing import BinaryIO, Iterable, Iterator, List, NamedTuple, Optional, Type
+from typing import BinaryIO, Iterable, Iterator, List, NamedTuple, Optional, Sequence, Type
 
 from .errors import FarmError
+from .pieces import MOST_PIECES, Piece, behind
 from .shape import MOST_ITERATIONS, MOST_PATHS
 
 MAGIC = b"HYDPLAN1"
@@ -152,28 +153,27 @@ class Growing:
 
         Whoever reads the journal meanwhile finds its end before them, or goes on to the last of them.
         """
-        pieces = [piece for payload in records for piece in (b"\x01", framed(payload))]
+        pieces = [piece for payload in records for piece in (b"\x01", len(payload).to_bytes(4, "big"), payload)]
         if pieces:
-            self._put(b"".join(pieces[1:]), len(pieces) // 2)
+            self._put(pieces[1:], len(pieces) // 3)
 
-    def _put(self, tail: bytes, records: int) -> None:
-        """Puts so many records behind those that are there, whose commit bytes stand between them."""
+    def _put(self, tail: Sequence[bytes], records: int) -> None:
+        """Puts so many records behind those that are there, in pieces, with commit bytes between the records."""
         if os.fstat(self._file.fileno()).st_size > self.end + 1:
             os.ftruncate(self._file.fileno(), self.end + 1)
-        data = b"".join([b"\x00", tail, b"\x00"])
-        self._write(data, self.end)
+        self._write([b"\x00", *tail, b"\x00"], self.end)
         self._sync()
-        self._write(b"\x01", self.end)
+        self._write([b"\x01"], self.end)
         self._sync()
         self.records += records
-        self.end += len(data) - 1
+        self.end += 1 + sum(map(len, tail))
 
     def append_from(self, other: Growing, begin: int, end: int, records: int) -> None:
         """As `append`, of so many records that stand in another journal from one commit byte to another."""
         if records:
             with opened(other.path) as file:
                 file.seek(begin + 1)
-                self._put(file.read(end - begin - 1), records)
+                self._put([file.read(end - begin - 1)], records)
 
     def file(self) -> int:
         """The descriptor of the file."""
@@ -183,15 +183,15 @@ class Growing:
         """Takes back what was appended behind an earlier end."""
         self.records, self.end = records, end
         os.ftruncate(self._file.fileno(), end)
-        self._write(b"\x00", end)
+        self._write([b"\x00"], end)
 
     def _sync(self) -> None:
         """Waits until the disk has what was written, where that is wanted."""
         if self._is_synced:
             os.fsync(self._file.fileno())
 
-    def _write(self, data: bytes, at: int) -> None:
-        view = memoryview(data)
-        while view:
-            done = os.pwrite(self._file.fileno(), view, at)
-            view, at = view[done:], at + done
+    def _write(self, pieces: Sequence[Piece], at: int) -> None:
+        left = list(pieces)
+        while left:
+            done = os.pwritev(self._file.fileno(), left[:MOST_PIECES], at)
+            left, at = behind(left, done), at + done

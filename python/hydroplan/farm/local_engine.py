@@ -9,15 +9,17 @@ import os
 import select
 import threading
 import time
+from itertools import product
 from pathlib import Path
-from typing import Callable, Dict, Iterable, Optional, Sequence
+from typing import Callable, Dict, Iterable, List, Mapping, Optional, Sequence, Set, Tuple
 
-from .engine import DONE, RUNNING, Call
+from .engine import DONE, RUNNING, Call, Teller
 from .errors import WorkerFault
 from .living import MOST_JOINED, Living
 from .program import built_worker
 from .work import Order, Worker, broken
 
+KEPT_TELLERS = 3
 MOST_FEEDING = 0.1
 """So many seconds at most are spent on writing the problem to processes before their first orders; they are given the rest with these."""
 
@@ -29,6 +31,8 @@ class LocalCall:
         self._worker = worker
         self.order = order
         self.found: Optional[bytes] = None
+        self.is_quiet = False
+        """Whether its process has nothing to say, as far as is known."""
 
     def begin(self) -> None:
         """Begins the order, and does it where no process lives on."""
@@ -46,7 +50,7 @@ class LocalCall:
 
     def state(self) -> str:
         """As `Call.state`."""
-        if self.living() is not None:
+        if self.found is None and not self.is_quiet and self.living() is not None:
             self._do(self._worker.look)
         return RUNNING if self.found is None else DONE
 
@@ -66,6 +70,9 @@ class LocalEngine:
     def __init__(self, count: int, program: Path) -> None:
         self._program = program
         self._workers = {str(number): Worker() for number in range(1, count + 1)}
+        self._tellers: Dict[str, Optional[Living]] = {}
+        """The processes that tell the last rounds that were spoken of, by the names of these."""
+        self._is_crowded = count >= processors()
         self._woken, self._wakes = os.pipe()
         self._is_open, self._lock = True, threading.Lock()
 
@@ -82,10 +89,36 @@ class LocalEngine:
             for living in begun:
                 living.feed(until)
 
-    def ahead(self, run: str, name: str, parts: Sequence[Sequence[bytes]], count: int) -> None:
-        """As `Engine.ahead`."""
-        for worker in self._workers.values():
-            worker.ahead(run, name, parts, count)
+    def ahead(self, run: str, name: str, parts: Sequence[Sequence[bytes]], count: int, seeds: Mapping[str, Tuple[int, int]]) -> None:
+        """As `Engine.ahead`. All are given a part before anybody is given the next, so that nobody waits while much is copied for others."""
+        teller, behind = self._teller(run, name), self._behind(run, name)
+        first = min((living.handed for _, living in behind), default=0) + 1
+        for given, (address, living) in product(range(min(first, len(parts)), len(parts) + 1), behind):
+            living.ahead(parts[:given], count, living is teller, seeds.get(address))
+
+    def tell(self, run: str, name: str, parts: Sequence[Sequence[bytes]]) -> Optional[Teller]:
+        """As `Engine.tell`."""
+        teller = self._teller(run, name)
+        if teller is not None and teller.name == name:
+            teller.ahead(parts, len(parts), is_told=True)
+        return teller
+
+    def _behind(self, run: str, name: str) -> List[Tuple[str, Living]]:
+        """The processes that do a round of this name, or have done it, by their addresses."""
+        found = [(address, worker.behind(run, name)) for address, worker in self._workers.items()]
+        return [(address, living) for address, living in found if living is not None]
+
+    def _teller(self, run: str, name: str) -> Optional[Living]:
+        """The process that tells a round of this name: from the first question on, one that has nothing to do then."""
+        if name not in self._tellers:
+            found = next((it for _, it in self._behind(run, name) if it.is_idle()), None)
+            self._tellers = {**dict([*self._tellers.items()][-KEPT_TELLERS:]), name: found}
+        return self._tellers[name]
+
+    def spent(self, run: str) -> Optional[float]:
+        """As `Engine.spent`. Runs of the built program do not say."""
+        found = [worker.living(run) for worker in self._workers.values()]
+        return sum(it.spent() for it in found if it is not None) if any(found) else None
 
     def begin(self, address: str, order: Order) -> Call:
         """As `Engine.begin`."""
@@ -103,18 +136,41 @@ class LocalEngine:
             if self._is_open:
                 os.write(self._wakes, b"!")
 
+    def rest(self, run: str, seconds: float) -> None:
+        """As `Engine.rest`."""
+        ahead = [it for it in (worker.living(run) for worker in self._workers.values()) if it is not None and it.is_ahead()]
+        if ahead:
+            self._poll_of(ahead).poll(seconds * 1000)
+
     def wait(self, calls: Iterable[Call], seconds: float) -> None:
         """As `Engine.wait`."""
-        poll = select.poll()
-        poll.register(self._woken, select.POLLIN)
-        for call in calls:
-            if not isinstance(call, LocalCall) or call.found is not None:
-                return
-            living = call.living()
-            if living is not None:
-                living.watch(poll)
-        if any(place == self._woken for place, _ in poll.poll(seconds * 1000)):
+        waiting = [it if isinstance(it, LocalCall) and it.found is None else None for it in calls]
+        running = [it for it in waiting if it is not None]
+        if len(running) == len(waiting):
+            watched = [(it, living) for it, living in ((it, it.living()) for it in running) if living is not None]
+            poll = self._poll_of([living for _, living in watched])
+            poll.register(self._woken, select.POLLIN)
+            most = 0 if any(living.has_come() for _, living in watched) else seconds
+            self._heard(watched, {place for place, _ in poll.poll(most * 1000)})
+
+    def _heard(self, watched: Iterable[Tuple[LocalCall, Living]], places: Set[int]) -> None:
+        """Marks the calls whose processes have nothing to say, where some have: where none has, a time may be over."""
+        if self._woken in places:
             os.read(self._woken, 1 << 12)
+        for call, living in watched:
+            call.is_quiet = bool(places) and not (living.is_telling() or living.has_come() or living.is_at(places))
+
+    def _poll_of(self, processes: Sequence[Living]) -> "select.poll":
+        """A poll for what processes do next.
+
+        Where they have all processors, it leaves out one that tells a round first, as long as others are at work: this process would take one of
+        them away to read what is of no use yet, and its answer is of use with theirs.
+        """
+        poll = select.poll()
+        silent = [it for it in processes if not it.is_telling()] if self._is_crowded else processes
+        for living in silent or processes:
+            living.watch(poll)
+        return poll
 
     def close(self, run: str) -> None:
         """As `Engine.close`."""
@@ -126,3 +182,11 @@ class LocalEngine:
             self._is_open = False
             os.close(self._woken)
             os.close(self._wakes)
+
+
+def processors() -> int:
+    """The processors that this process may have."""
+    try:
+        return len(os.sched_getaffinity(0))
+    except AttributeError:  # another system
+        return os.cpu_count() or 1

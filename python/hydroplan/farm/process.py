@@ -10,7 +10,7 @@ TYPE_CHECKING = False
 if TYPE_CHECKING:
     from typing import BinaryIO, Dict, List, Optional, Sequence, Tuple
 
-SET_PIPE_SIZE = 1031  # F_SETPIPE_SZ of Linux
+SET_PIPE_SIZE, GET_PIPE_SIZE = 1031, 1032  # F_SETPIPE_SZ and F_GETPIPE_SZ of Linux
 PIPE_BYTES = 1 << 20
 LOOKS_EVERY = 0.002
 _found: Dict[Tuple[str, str], Optional[str]] = {}
@@ -48,8 +48,11 @@ class Process:
 
     def __init__(self, words: Sequence[str], source: Optional[BinaryIO] = None) -> None:
         self.returncode: Optional[int] = None
+        self._spent = 0.0
         self.input = self.output = -1
         """The ends of the pipes."""
+        self.holds = 0
+        """How many bytes the pipe of the output takes before anybody reads."""
         self._errors = unnamed()
         if source is None:
             self._begin_with_pipes(words)
@@ -63,7 +66,7 @@ class Process:
         try:
             for pipe in (self.input, self.output):
                 os.set_blocking(pipe, False)
-                widen(pipe)
+                self.holds = widen(pipe)
             self._spawn(words, read, written)
         except OSError:
             self.close()
@@ -88,9 +91,21 @@ class Process:
 
     def _ended(self, how: int) -> Optional[int]:
         if self.returncode is None:
-            ended, status = os.waitpid(self.pid, how)
+            ended, status, used = os.wait4(self.pid, how)
             self.returncode = os.waitstatus_to_exitcode(status) if ended else None
+            self._spent = used.ru_utime + used.ru_stime
         return self.returncode
+
+    def spent(self) -> float:
+        """The processor seconds that it took so far, as far as the system says that of one that goes on."""
+        if self.poll() is None:
+            try:
+                with open(f"/proc/{self.pid}/stat", "rb") as file:
+                    fields = file.read().rpartition(b")")[2].split()
+                return (int(fields[11]) + int(fields[12])) / os.sysconf("SC_CLK_TCK")
+            except (OSError, ValueError, IndexError):
+                pass
+        return self._spent
 
     def ends_within(self, seconds: float) -> bool:
         """Whether it ends within so many seconds, where it is about to."""
@@ -133,12 +148,14 @@ class Process:
                 os.close(pipe)
 
 
-def widen(pipe: int) -> None:
-    """Has a pipe take more, where the system allows for that."""
-    try:
-        fcntl.fcntl(pipe, SET_PIPE_SIZE, PIPE_BYTES)
-    except OSError:
-        pass
+def widen(pipe: int) -> int:
+    """Has a pipe take more, where the system allows for that; how many bytes it takes, as far as that is known."""
+    for asked, size in ((SET_PIPE_SIZE, PIPE_BYTES), (GET_PIPE_SIZE, 0)):
+        try:
+            return fcntl.fcntl(pipe, asked, size)
+        except OSError:
+            pass
+    return 0
 
 
 def _above(file: int) -> int:

@@ -9,19 +9,24 @@ import time
 from collections import deque
 from math import inf
 from pathlib import Path
-from typing import Callable, Dict, List, NamedTuple, Optional, Tuple, Union
+from typing import Callable, Dict, List, NamedTuple, Optional, Sequence, Tuple, Union
 
-from .checking import Checking, Verdict
+from .checking import LEFT_OVER, NICE, WAITED_FOR, Checking, Verdict
 from .errors import FarmError
 from .joined import Front, PartFault, in_turns
 from .joiner import Ended, Joiner
 from .journals import Growing
 from .living import MOST_JOINED
 from .shape import Shape
+from .told import Tell, Told
 from .worker_joiner import Gone, WorkerJoiner
 
-TRAINED_FOR_A_CHECK = 20.0
+AnyJoiner = Union[Joiner, WorkerJoiner, Told]
+SILENT = 600.0
+TRAINED_FOR_A_CHECK = 40.0
 """The workers train so many times as long as a check takes before the next one begins."""
+HELD_UP = 5.0
+"""A check that has gone on for so many seconds, and so many times as long as it takes, is given its share of the processors."""
 BEFORE_THE_END = 0.6
 """The last check begins when training will end within so much of the time that it takes."""
 
@@ -92,11 +97,30 @@ class Overturned(Exception):
 
 
 class Spent:
-    """Processor seconds of joining and of checking, seconds that workers trained, and the bytes of orders and of answers."""
+    """Processor seconds of joining and of checking, seconds that workers trained, and the bytes of orders and of answers.
+
+    `beside` are the seconds of joining and checking that other processes took than this one and the workers.
+    """
 
     def __init__(self) -> None:
-        self.joining = self.checking = self.training = 0.0
+        self.joining = self.checking = self.training = self.beside = 0.0
         self.sent = self.received = 0
+
+    def join(self, seconds: float, is_beside: bool) -> None:
+        """So many seconds were spent on joining, by a process of its own or here."""
+        self.joining += seconds
+        self.beside += seconds if is_beside else 0.0
+
+    def check(self, seconds: float) -> None:
+        """So many seconds were spent on checking."""
+        self.checking += seconds
+        self.beside += seconds
+
+    def share(self, workers: float) -> str:
+        """What share joining and checking have of all processor time, where the workers took so much of it."""
+        here = time.process_time()
+        share = (self.joining + self.checking) / (workers + here + self.beside)
+        return f"processors were busy {workers:.2f} s with workers and {here:.2f} s with this process; joining and checking are {share:.3f} of all"
 
 
 class Pace:
@@ -129,12 +153,16 @@ class Proving:
         self._scratch = scratch
         self._records, self._end = front.records, front.end
         """The records with all rounds, and where those end that stand in the copy."""
-        self._joiner: Optional[Union[Joiner, WorkerJoiner]] = None
+        self._joiner: Optional[AnyJoiner] = None
         self._joined: List[Joined] = []
         self._checking: Optional[Checking] = None
         self._next_check = 0.0
         self._least, self._lasting = inf, 0.0
         self._pace = Pace(front.records)
+        self.tell: Optional[Tell] = None
+        """Who of the workers tells a round as it stands joined, as long as they are believed."""
+        self.seconds = SILENT
+        """After so many seconds without a word whoever joins rounds is silent."""
         self.spent = Spent()
         self.verdict: Optional[Verdict] = None
         self.proved: Callable[[Round, int, Verdict], None] = lambda last, records, verdict: None
@@ -148,22 +176,26 @@ class Proving:
             self._joiner, self._front = self._begun(len(current.counts)), None
         self._joined.append(Joined(current, self._records))
         self._records += sum(current.counts)
-        self._joiner.give(current.parts())
+        _give(self._joiner, current)
 
-    def _begun(self, parts: int) -> Union[Joiner, WorkerJoiner]:
-        """What joins rounds of so many parts: a process of the living worker's program, where it takes so many."""
+    def _begun(self, parts: int) -> AnyJoiner:
+        """What joins rounds of so many parts: workers, else a process of their program, where it takes so many, else Python."""
         job = self._job
-        if job.living is not None and parts <= MOST_JOINED:
-            return WorkerJoiner(job.living, job.problem, self._scratch, job.paths)
-        return Joiner(job.shape, self._front, self._scratch, job.paths)
+        if job.living is None or parts > MOST_JOINED:
+            return Joiner(job.shape, self._front, self._scratch, job.paths)
+        if self.tell is not None:
+            return Told(self.tell, self._scratch, self.seconds)
+        return WorkerJoiner(job.living, job.problem, self._scratch, job.paths, self.seconds)
 
     def look(self) -> None:
         """Takes what a check says that is over, and begins another one where it is time. Overturned where a round was refused."""
         self._hear()
         if self._checking is not None and self._checking.is_over():
             self._take_verdict()
+        if self._checking is not None and self._checking.is_held_up(HELD_UP * (1 + self._lasting)):
+            self._hasten_check(0, NICE)
         if self._checking is None and self._joined and self._joined[0].place is not None and self._is_time():
-            self._begin_check(is_waited_for=self._is_time_for_the_last())
+            self._begin_check(LEFT_OVER)
 
     def _hear(self, records: int = 0) -> None:
         """Takes what was said of rounds that are joined; waits for those up to so many records. Overturned where a part has what is no record."""
@@ -176,23 +208,31 @@ class Proving:
                     raise Overturned(refused, said.part, str(said))
                 self._joined[at].place, self._end = (self._end, said.end), said.end
                 self._pace.add(said.records)
-                self.spent.joining += said.seconds
+                self.spent.join(said.seconds, not isinstance(self._joiner, Told))
             if all(it.place is not None for it in self._joined if it.end <= records):
                 return
             self._joiner.wait()
 
-    def _come(self, joiner: Union[Joiner, WorkerJoiner]) -> List[Union[Ended, PartFault]]:
-        """What was said since. Where the worker's process is gone, Python joins what that did not tell."""
+    def _come(self, joiner: AnyJoiner) -> List[Union[Ended, PartFault]]:
+        """What was said since. Where whoever joins is gone, another joins what that did not tell."""
         found: List[Union[Ended, PartFault]] = []
         try:
             for said in joiner.come():
                 found.append(said)
         except Gone:
-            joiner.end()
-            self._joiner = Joiner(self._job.shape, None, self._scratch, self._job.paths)
-            for it in [it for it in self._joined if it.place is None][len(found):]:
-                self._joiner.give(it.round.parts())
+            self._join_anew([it for it in self._joined if it.place is None][len(found):])
         return found
+
+    def _join_anew(self, rounds: Sequence[Joined]) -> None:
+        """Has rounds joined by another than before: by a process of its own in the place of workers, else by Python."""
+        joiner, self.tell = self._joiner, None
+        is_told = isinstance(joiner, Told)
+        if joiner is not None:
+            joiner.end()
+        job = self._job
+        self._joiner = self._begun(1) if is_told else Joiner(job.shape, None, self._scratch, job.paths)
+        for it in rounds:
+            _give(self._joiner, it.round)
 
     def _is_time(self) -> bool:
         """Whether a check is to begin: the last one, or one that ends long before that has to begin."""
@@ -208,9 +248,17 @@ class Proving:
         """Waits until all that was joined is proved. Overturned where a round was refused."""
         self._hear(self._records)
         while self._joined:
-            if self._checking is None:
-                self._begin_check(is_waited_for=True)
+            self._hasten_check(self._lasting, WAITED_FOR)
             self._take_verdict()
+            self._hear(self._records)
+
+    def _hasten_check(self, seconds: float, taking: str) -> None:
+        """Sees to it that others do not hold up a check: where the system does not allow for that within so many seconds, another one begins."""
+        if self._checking is not None and not self._checking.hasten(seconds):
+            self._checking.end()
+            self._checking = None
+        if self._checking is None:
+            self._begin_check(taking)
 
     def whole(self) -> bytes:
         """All records with the commit byte before each. Overturned where a round was refused."""
@@ -228,9 +276,9 @@ class Proving:
             self._joiner.end()
             self._joiner = None
 
-    def _begin_check(self, is_waited_for: bool) -> None:
+    def _begin_check(self, taking: str) -> None:
         """Begins a check of all that was joined, and of what is joined before it comes to the end."""
-        self._checking = Checking(self._job.program, self._scratch.path, self._scratch.path.with_name("problem.json"), is_waited_for)
+        self._checking = Checking(self._job.program, self._scratch.path, self._scratch.path.with_name("problem.json"), taking)
 
     def _take_verdict(self) -> None:
         """Waits for the check and puts what it proved into the journal."""
@@ -238,10 +286,11 @@ class Proving:
         if checking is None:
             return
         verdict = checking.verdict()
-        self.spent.checking += checking.seconds
+        self.spent.check(checking.seconds)
         self._next_check = self.spent.training + TRAINED_FOR_A_CHECK * checking.seconds
         if verdict.refused is not None:
             self._overturn(verdict.refused, verdict.line.replace("hydroplan: ", "", 1))
+            return
         self._expect(checking.seconds, verdict.records)
         self._hear(verdict.records)
         proved = [it for it in self._joined if it.end <= verdict.records]
@@ -264,23 +313,47 @@ class Proving:
         self._lasting = self._least + (seconds - self._least) * self._job.count / max(records, 1)
 
     def _overturn(self, number: int, line: str) -> None:
-        """Takes back the round of the record that `check` refused, and all behind it."""
+        """Takes back the round of the record that `check` refused, and all behind it. Where a worker told it, it is joined by another first."""
         self._hear(number)
         at = next((at for at, it in enumerate(self._joined) if it.before < number <= it.end), None)
         if at is None:
             raise FarmError(f"the journal itself was refused: {line}", 6)
         refused = self._joined[at]
+        if isinstance(self._joiner, Told):
+            self._doubt(at)
+            return
         self._take_back(at)
         part = in_turns(refused.round.counts)[number - refused.before - 1][1]
         raise Overturned(refused.round, part, f"`check` says: {line}")
+
+    def _doubt(self, at: int) -> None:
+        """Has a round and all behind it joined once more, in case the worker that told it is to blame, and not who made a record of it."""
+        doubted = self._joined[at:]
+        self._cut(doubted[0])
+        for it in doubted:
+            it.place = None
+        self._join_anew(doubted)
 
     def _take_back(self, at: int) -> None:
         """Drops a round and all behind it. What joins those that come instead looks at the records before them."""
         dropped = self._joined[at]
         if self._joiner is not None:
             self._joiner.end()
-            self._joiner = None
-        self._records, self._end = dropped.before, self._end if dropped.place is None else dropped.place[0]
+            self._joiner, self.tell = None, None
+        self._cut(dropped)
+        self._records = dropped.before
         self._pace = Pace(dropped.before)
-        self._scratch.cut(dropped.before, self._end)
         del self._joined[at:]
+
+    def _cut(self, first: Joined) -> None:
+        """Takes a round and all behind it out of the copy."""
+        self._end = self._end if first.place is None else first.place[0]
+        self._scratch.cut(first.before, self._end)
+
+
+def _give(joiner: AnyJoiner, current: Round) -> None:
+    """Gives a round to whoever joins it."""
+    if isinstance(joiner, Told):
+        joiner.give(current.name, current.parts())
+    else:
+        joiner.give(current.parts())

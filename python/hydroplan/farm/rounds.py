@@ -3,9 +3,11 @@ on every machine, and after a kill."""
 from __future__ import annotations
 
 import hashlib
+from functools import lru_cache
 from typing import Tuple
 
 
+@lru_cache(maxsize=1 << 10)
 def part_seed(seed: int, part: int) -> int:
     """The seed of a part, 64 bits. Part 0 has the seed itself, so that training in one part is that of the program alone.
 

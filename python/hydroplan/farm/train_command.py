@@ -193,6 +193,9 @@ def _trained(words: Words, training: FarmTraining, at_work: AtWork, say: Callabl
     say(f"joining took {spent.joining:.2f} s of a processor and checking {spent.checking:.2f} s; "
         f"workers were busy {spent.training:.2f} of {there:.2f} s; "
         f"sent {spent.sent / 1e6:.1f} MB, received {spent.received / 1e6:.1f} MB")
+    taken = at_work.engine.spent(training.run_name)
+    if taken is not None:
+        say(spent.share(taken))
     say("iterations by worker: " + ", ".join(f"{name} {count}" for name, count in sorted(training.shares.items())))
     return training.proving.verdict
 

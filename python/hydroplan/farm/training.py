@@ -20,6 +20,7 @@ from .rounds import iterations_of_round, part_seed
 from .work import PROGRAM_FAILED, Order, forget, perform
 
 LEAST_SECONDS, PATIENCE = 30.0, 10.0
+LOOKS_EVERY = 0.05
 COORDINATOR = "the coordinator"
 
 
@@ -42,7 +43,7 @@ class FarmTraining:
         self._session = os.urandom(8).hex()
         self._names = count(1)
         self._round = 0
-        self._pace = 0.0
+        self._pace = self._looked = 0.0
         self._digests = {"program": digest_of(job.program), "living": "" if job.living is None else digest_of(job.living)}
         self.shares: Dict[str, int] = {}
         self.seconds = 0.0
@@ -57,11 +58,13 @@ class FarmTraining:
     def run(self, asking: Asking) -> None:
         """Trains until the journal has as many records as the job says."""
         self._asking = asking
+        self.proving.tell = lambda name, parts: asking.tell(self._job.run, name, parts)
         begun, current = time.monotonic(), self._next()
         while current is not None:
             try:
                 self._collect(current)
                 self.seconds = time.monotonic() - begun
+                self._join_last()
                 self._last = self._to_join = current
                 self.records = current.records + sum(current.counts)
                 current = self._next()
@@ -97,15 +100,29 @@ class FarmTraining:
     def _collect(self, current: Round) -> None:
         """Asks workers until each part of a round has an answer of the right form; meanwhile those before it are joined and checked."""
         self._asking.forget_lost()
+        self._asking.rest(self._job.run, LOOKS_EVERY)
         while current.missing():
             if self._pace:
                 self._asking.seconds = max(LEAST_SECONDS, PATIENCE * self._pace * max(current.counts))
             self._asking.give(current.missing(), lambda part, address: self._order(current, part, address))
-            self._join_last()
-            self.proving.look()
-            self._asking.wait(0.05)
-            for came in self._asking.come():
-                self._take(current, came)
+            self._asking.wait(LOOKS_EVERY)
+            took, missing = self._take_all(current), len(current.missing())
+            if (took and 0 < 2 * missing <= len(current.counts)) or time.monotonic() - self._looked > LOOKS_EVERY:
+                self._look()
+
+    def _look(self) -> None:
+        """Has the round before the present one joined, and looks at checks: once half of the workers are idle, where that can be."""
+        self._looked = time.monotonic()
+        self.proving.seconds = self._asking.seconds
+        self._join_last()
+        self.proving.look()
+
+    def _take_all(self, current: Round) -> bool:
+        """Takes what came of parts; whether anything did."""
+        number = 0
+        for number, came in enumerate(self._asking.come(), 1):
+            self._take(current, came)
+        return number > 0
 
     def _join_last(self) -> None:
         """Joins the round before the present one, where that was not done yet."""
@@ -177,9 +194,11 @@ class FarmTraining:
 
     def _tell_ahead(self, current: Round) -> None:
         """Tells workers of the first parts of a round that are there, unless it is the last one."""
-        parts = current.first_parts()
-        if parts and current.records + sum(current.counts) < self._job.count:
-            self._asking.ahead(self._job.run, current.name, parts, len(current.counts))
+        parts, records = current.first_parts(), current.records + sum(current.counts)
+        if parts and records < self._job.count:
+            counts = iterations_of_round(records, self._job.count, self.plan.parts or 1)
+            seeds = [(part_seed(self._job.seed, part), it) for part, it in enumerate(counts)]
+            self._asking.ahead(self._job.run, current.name, parts, len(current.counts), seeds)
 
     def _take_failure(self, current: Round, came: Came, said: bytes) -> None:
         """Does a part itself where a worker says that the program fails on it: nobody is believed that a problem has no solution.

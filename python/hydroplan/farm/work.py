@@ -125,11 +125,10 @@ class Worker:
         kept = self._kept.get(run)
         return kept if isinstance(kept, Living) else None
 
-    def ahead(self, run: str, name: str, parts: Sequence[Sequence[bytes]], count: int) -> None:
-        """Gives a process that is behind a round the first of its records, of so many parts, which its next order will bring."""
+    def behind(self, run: str, name: str) -> Optional[Living]:
+        """The process that does a round of this name, or has done it."""
         living = self.living(run)
-        if living is not None and living.name == name:
-            living.ahead(parts, count)
+        return living if living is not None and living.name == name else None
 
     def kill(self, run: str) -> None:
         """Kills the processes of a run, whose ends are waited for when it is forgotten."""
@@ -208,7 +207,12 @@ def _living_program(order: Order) -> Optional[Path]:
 def _has_what_it_takes(kept: Kept, order: Order) -> bool:
     """Whether the records that are kept are those behind which the order's come."""
     is_there = order["whole"] is None and kept.name == order["base"] and (not order["own"] or kept.own_name == order["own"])
-    return is_there and (isinstance(kept, KeptJournal) or (kept.is_alive() and kept.may_join(_parts(kept, order))))
+    return is_there and (isinstance(kept, KeptJournal) or _goes_on(kept, order))
+
+
+def _goes_on(kept: Living, order: Order) -> bool:
+    """Whether a process that has the records may be given the order, beside what it was given ahead."""
+    return kept.is_alive() and kept.may_join(_parts(kept, order)) and kept.may_begin(order["seed"], _count(order), False)
 
 
 def _parts(kept: Kept, order: Order) -> List[Sequence[bytes]]:

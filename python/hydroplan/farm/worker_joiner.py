@@ -6,6 +6,7 @@ from __future__ import annotations
 
 import os
 import select
+import time
 from collections import deque
 from pathlib import Path
 from typing import Deque, Iterator, List, Optional, Sequence
@@ -13,7 +14,8 @@ from typing import Deque, Iterator, List, Optional, Sequence
 from ..errors import HydroplanError
 from .joiner import NICER, Ended
 from .journals import Growing
-from .living import MOST_LINE, MOST_PIECES, Piece, behind, joining
+from .living import MOST_LINE, joining
+from .pieces import MOST_PIECES, Piece, behind
 from .process import PIPE_BYTES, Process, command
 
 
@@ -24,9 +26,12 @@ class Gone(HydroplanError):
 class WorkerJoiner:
     """The process, behind the records of the copy `scratch`, into which it puts those of each round that it is given."""
 
-    def __init__(self, program: Path, problem: bytes, scratch: Growing, paths: int) -> None:
+    def __init__(self, program: Path, problem: bytes, scratch: Growing, paths: int, seconds: float) -> None:
         self._process = Process(command(program, []))
         self._scratch = scratch
+        self._seconds = seconds
+        self._heard = time.monotonic()
+        """When it was given a round while it had none, or told something the last time."""
         self._rounds: Deque[int] = deque()
         """How many records the rounds have that were given and not told yet."""
         self._left: List[Piece] = [paths.to_bytes(2, "big"), len(problem).to_bytes(4, "big"), problem]
@@ -47,8 +52,9 @@ class WorkerJoiner:
 
     def give(self, parts: Sequence[Sequence[bytes]]) -> None:
         """Gives it a round."""
-        first, *others = joining(parts)
-        self._left += (b"E" + bytes(first)[1:], *others)
+        if not self._rounds:
+            self._heard = time.monotonic()
+        self._left += joining(parts, is_told=True)
         self._rounds.append(sum(map(len, parts)))
         self._write()
 
@@ -64,15 +70,23 @@ class WorkerJoiner:
             self._scratch.append(records)
             yield Ended(self._scratch.records, self._scratch.end, self._took())
         if not is_there:
-            raise Gone(f"{self._process.wait()}: {self._process.said(MOST_LINE).strip()}")
+            raise Gone(self._last_words())
+        if self._rounds and time.monotonic() - self._heard > self._seconds:
+            raise Gone("it is silent")
+
+    def _last_words(self) -> str:
+        """How it ended, and what it said. One that closes its output and goes on is killed."""
+        if not self._process.ends_within(1):
+            self._process.kill()
+        return f"{self._process.wait()}: {self._process.said(MOST_LINE).strip()}"
 
     def wait(self) -> None:
-        """Waits until it tells something, or takes more of what is left for it."""
+        """Waits until it tells something, or takes more of what is left for it, and no longer than until it is silent."""
         poll = select.poll()
         poll.register(self._process.output, select.POLLIN)
         if self._left:
             poll.register(self._process.input, select.POLLOUT)
-        poll.poll()
+        poll.poll(1000 * max(0.0, self._heard + self._seconds - time.monotonic()) + 1)
 
     def end(self) -> None:
         """Ends it."""
@@ -95,6 +109,7 @@ class WorkerJoiner:
                 if not more:
                     return False
                 self._came += more
+                self._heard = time.monotonic()
         except BlockingIOError:
             return True
 
