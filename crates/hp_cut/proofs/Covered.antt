@@ -7,7 +7,7 @@ use Rattle.std.proofs.lemmas.List.{length-append}
 use Rattle.std.proofs.lemmas.Int.{ints}
 use Rattle.hp_solver.specs.PackedCut.{PackedCut, no_packed_cut}
 use Rattle.hp_solver.specs.Covering.{value_of, packed_cut_at, IsBefore, Covers, IsCovered, AreRisingPlaces, CoverAll}
-use Rattle.hp_cut.specs.Active.{CoverFirst, IsLeft, AreMarkedFirst, IsMarked, AreFirst, IsActive, IsRoomTaken}
+use Rattle.hp_cut.specs.Active.{CoverFirst, IsLeft, AreMarkedFirst, IsMarked, AreFirst, IsActive, AreTaken}
 use Rattle.hp_cut.specs.CoarseLists.{IsCoarseOf}
 use Rattle.hp_cut.specs.declared.active_cuts.Active.{Active}
 
@@ -135,6 +135,14 @@ first_with all lows highs ps room new p before rising left put = rw (add-one, pu
     here : (j : ℕ) → ((j < p) ⊎ (j ≡ p)) → IsCovered all lows highs (room ++ p ∷ []) j
     here j (inl a) = let c = before.covered j a in covered_with all lows highs room p (get_or ps c.by 0) j (left c.by c.there) c.covers
     here j (inr e) = subst (λ (n : ℕ). IsCovered all lows highs (room ++ p ∷ []) n) (sym e) (covered_own all lows highs room p)
+
+-- no place goes, and the new one is put behind them
+pub first_pushed : (all : List PackedCut) (lows highs : List ℤ) (ps : List ℕ) (p : ℕ) → CoverFirst all p ps lows highs → CoverFirst all (p + 1) (ps ++ p ∷ []) lows highs
+first_pushed all lows highs ps p before = first_with all lows highs ps ps (ps ++ p ∷ []) p before before.rising (λ k h. inl (record {
+  by = k;
+  there = h;
+  covers = covers_refl all lows highs (get_or ps k 0);
+})) refl
 
 -- the new one is covered already
 pub first_covered : (all : List PackedCut) (lows highs : List ℤ) (ps : List ℕ) (p : ℕ) → CoverFirst all p ps lows highs → IsCovered all lows highs ps p → CoverFirst all (p + 1) ps lows highs
@@ -273,9 +281,9 @@ gone_back all old new mark e places lows highs copies coarse marked count = reco
   };
 }
 
--- the cuts at the places in the room cover the first cuts and one more
-pub room_taken : (all : List PackedCut) (p : ℕ) (old mid new : Active) → AreFirst all p old → CoverFirst all (p + 1) mid.room.items old.lows.items old.highs.items → mid.lows.items ≡ old.lows.items → mid.highs.items ≡ old.highs.items → mid.marked.items ≡ old.marked.items → mid.marked_count ≡ old.marked_count → IsRoomTaken all mid new → AreFirst all (p + 1) new
-room_taken all p old mid new before cover lows highs marked count taken = record {
+-- the cuts at the places that are taken cover the first cuts and one more
+pub places_taken : (all : List PackedCut) (p : ℕ) (qs : List ℕ) (old mid new : Active) → AreFirst all p old → CoverFirst all (p + 1) qs old.lows.items old.highs.items → mid.lows.items ≡ old.lows.items → mid.highs.items ≡ old.highs.items → mid.marked.items ≡ old.marked.items → mid.marked_count ≡ old.marked_count → AreTaken all qs mid new → AreFirst all (p + 1) new
+places_taken all p qs old mid new before cover lows highs marked count taken = record {
   cover = rw (taken.places, taken.lows, taken.highs, lows, highs) cover;
   same = taken.same;
   coarse = taken.coarse;

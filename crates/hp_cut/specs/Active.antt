@@ -47,9 +47,9 @@ pub record IsActive (all : List PackedCut) (a : Active) : Type 0 where
   pub coarse : IfSome a.coarse (IsCoarseOf a.copies)
   pub mark : AreMarkedFirst all (length all) a
 
--- the places in the room stand for the former ones, and nothing else has changed
-pub record IsRoomTaken (all : List PackedCut) (old new : Active) : Type 0 where
-  pub places : new.places.items ≡ old.room.items
+-- these places stand for the former ones, the box and the mark are as they were
+pub record AreTaken (all : List PackedCut) (taken : List ℕ) (old new : Active) : Type 0 where
+  pub places : new.places.items ≡ taken
   pub same : new.copies ≡ map (packed_cut_at all) new.places.items
   pub coarse : IfSome new.coarse (IsCoarseOf new.copies)
   pub lows : new.lows.items ≡ old.lows.items

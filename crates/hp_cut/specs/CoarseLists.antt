@@ -15,12 +15,12 @@ AreFrontColumns shift kept cuts columns = (j : ℕ) (d : Vec ℕ) → j < length
 
 -- the first entries are those of the first cuts
 pub record IsCoarseFront (kept : ℕ) (cuts : List PackedCut) (c : Coarse) : Type 0 where
-  pub heights : AreHeights (c.slope_shift + c.state_shift) (take kept cuts) (take kept c.heights.items)
+  pub heights : AreHeights (c.slope_shift + c.state_shift) c.base (take kept cuts) (take kept c.heights.items)
   pub steeps : AreFrontColumns c.slope_shift kept cuts c.steeps.items
 
--- the entries are those of the cuts: heights that are not below theirs, and for each state numbers by which they fall at least
+-- the entries are those of the cuts: heights that, counted from the base, are not below theirs, and for each state numbers by which they fall at least
 pub record IsCoarseOf (cuts : List PackedCut) (c : Coarse) : Type 0 where
-  pub heights : AreHeights (c.slope_shift + c.state_shift) cuts c.heights.items
+  pub heights : AreHeights (c.slope_shift + c.state_shift) c.base cuts c.heights.items
   pub steeps : AreColumns c.slope_shift cuts c.steeps.items
   pub states : All (λ cut. length cut.slopes ≡ length c.steeps.items) cuts
   pub slope_shift : c.slope_shift ≤ 57

@@ -1,16 +1,17 @@
 // The cuts of a node that cover the others over a box of states.
-ghost use Rattle.std.specs.Prelude.{◌≡◌, ◌<◌, ◌+◌, ℕ, ◌+ℤ◌, ◌-ℤ◌, ◌*ℤ◌, List, length, map, take, get_or, true, All, IfOk, IfSome, OnOk};
+ghost use Rattle.std.specs.Prelude.{◌≡◌, ◌<◌, ◌+◌, ◌∷◌, ◌++◌, [], ℕ, ◌+ℤ◌, ◌-ℤ◌, ◌*ℤ◌, List, length, map, take, get_or, true, All, IfOk, IfSome, OnOk};
 ghost use Rattle.std.specs.Int.{int_min};
 ghost use Rattle.hp_num.specs.Sums.{sum_to};
 ghost use Rattle.hp_solver.specs.PackedCut.{PackedCut};
 ghost use Rattle.hp_solver.specs.Covering.{packed_cut_at, AreRisingPlaces, IsCovered, Covers, AreActive};
 ghost use Rattle.hp_solver.specs.Coarse.{IsCoarse};
 ghost use Rattle.hp_cut.specs.CoarseLists.{IsCoarseFront, IsCoarseOf};
-ghost use Rattle.hp_cut.specs.Active.{lesser_over, IsLead, IsLeft, AreFirst, IsActive, IsMarked, IsRoomTaken};
+ghost use Rattle.hp_cut.specs.Active.{lesser_over, IsLead, IsLeft, AreFirst, IsActive, IsMarked, AreTaken};
 
 use crate::box_maxima::{OutBox, sum};
 use crate::coarse::Coarse;
 use crate::copies::Copies;
+use crate::cut_value::{product, wrapped_value};
 use hp_num::Memory;
 use hp_solver::{ActiveCuts, CoarseCuts, CutList};
 use std::alloc::Global;
@@ -31,8 +32,7 @@ pub(crate) struct Active {
     corners: Vec<Corners>,
     /// The cuts at the places once more, side by side.
     copies: Copies,
-    /// The same cuts in fewer binary digits, none where one rises with a state, where a number does not fit, and where memory was
-    /// refused.
+    /// The same cuts in fewer binary digits, where all fall with each state, all numbers fit, and memory was there.
     coarse: Option<Coarse>,
     /// The number of cuts at the mark, 0 where there is none.
     marked_count: u32,
@@ -58,22 +58,6 @@ struct Compared<'a> {
     corners: &'a [Corners],
 }
 
-/// Multiplies two numbers, always in range.
-fn product(a: i64, b: i64) -> i128
-    ensures { result ≡ a *ℤ b }
-{
-    i128::from(a) * i128::from(b)
-}
-
-/// Finds the value of a cut at these ends, wrapped into i128.
-fn value_at(height: i128, slopes: &[i64], ends: &[i64]) -> i128 {
-    let mut value = height;
-    for (slope, end) in slopes.iter().zip(ends.iter()) {
-        value = value.wrapping_add(product(*slope, *end));
-    }
-    value
-}
-
 /// Keeps the values of the cut at a place too. [`Memory`] where memory was refused.
 fn push_corners(
     corners: &mut Vec<Corners>,
@@ -87,8 +71,8 @@ fn push_corners(
     let height = cuts.height(place as usize);
     let slopes = cuts.slopes(place as usize);
     corners.push(Corners {
-        least: value_at(height, slopes, lows),
-        greatest: value_at(height, slopes, highs),
+        least: wrapped_value(height, slopes, lows),
+        greatest: wrapped_value(height, slopes, highs),
     })?;
     Ok(())
 }
@@ -197,6 +181,20 @@ fn are_over(all: &Compared, places: &[u32], place: u32) -> bool
     false
 }
 
+/// Tells whether the cut at a place behind others is everywhere above one of them. The answer only saves time: with a new place
+/// behind them all cuts stay covered.
+fn is_above_one(all: &Compared, places: &[u32], place: u32) -> bool
+    requires there { place < length all.now.cuts.now }
+    requires rising { AreRisingPlaces 0 place places.now }
+{
+    for k in 0..places.len() {
+        if is_above(all, place, places[k]) {
+            return true;
+        }
+    }
+    false
+}
+
 /// Puts those into the room that the cut at a place behind them is not everywhere above. [`Memory`] where memory was refused.
 fn keep_rest(all: &Compared, places: &[u32], place: u32, room: &mut Vec<u32>) -> Result<(), Memory>
     requires there { place < length all.now.cuts.now }
@@ -227,14 +225,14 @@ fn same_front(places: &[u32], others: &[u32]) -> usize
     most
 }
 
-/// Updates cuts in fewer digits, the first of which stay, as many as the count says. None where the cuts cannot be had in fewer
-/// digits.
+/// Updates cuts in fewer digits, the first of which stay, as many as the count says. Digits and the base are chosen anew where no
+/// cut stays, and where a number does not fit. None where the cuts cannot be had in fewer digits.
 fn refilled(coarse: Option<Coarse>, highs: &[i64], cuts: &CutList, kept: usize) -> Option<Coarse>
     requires { IfSome coarse (IsCoarseFront kept cuts.now) }
     ensures { IfSome result (IsCoarseOf cuts.now) }
 {
     let mut found = coarse?;
-    if found.refill(cuts, kept) {
+    if kept > 0 && found.refill(cuts, kept) {
         return Some(found);
     }
     if found.remake(highs, cuts) {
@@ -343,9 +341,29 @@ impl Active {
         if are_over(&all, self.places.as_slice(), place) {
             return Ok(());
         }
+        if !is_above_one(&all, self.places.as_slice(), place) {
+            return self.push_place(cuts, place);
+        }
         keep_rest(&all, self.places.as_slice(), place, &mut self.room)?;
         self.room.push(place)?;
         self.take_room(cuts)
+    }
+
+    /// Puts a place behind the others. [`Memory`] where memory was refused, and where its cut has more or fewer slopes than the
+    /// others.
+    fn push_place(&mut self, cuts: &CutList, place: u32) -> Result<(), Memory>
+        requires there { place < length cuts.now }
+        requires same { self.old.copies ≡ map (packed_cut_at cuts.now) self.old.places.items }
+        requires coarse { IfSome self.old.coarse (IsCoarseOf self.old.copies) }
+        ensures { OnOk result (AreTaken cuts.now (self.old.places.items ++ place ∷ []) self.old self.new) }
+    {
+        let kept = self.places.len();
+        let coarse = self.coarse.take();
+        self.copies.push(cuts, place)?;
+        let highs = self.highs.as_slice();
+        self.coarse = refilled(coarse, highs, &self.copies.list(), kept);
+        self.places.push(place)?;
+        Ok(())
     }
 
     /// Takes the places in the room in place of the others. [`Memory`] where memory was refused, and where a cut has more or
@@ -354,7 +372,7 @@ impl Active {
         requires room { All (λ (p : ℕ). p < length cuts.now) self.old.room.items }
         requires same { self.old.copies ≡ map (packed_cut_at cuts.now) self.old.places.items }
         requires coarse { IfSome self.old.coarse (IsCoarseOf self.old.copies) }
-        ensures { OnOk result (IsRoomTaken cuts.now self.old self.new) }
+        ensures { OnOk result (AreTaken cuts.now self.old.room.items self.old self.new) }
     {
         let coarse = self.coarse.take();
         let highs = self.highs.as_slice();

@@ -5,6 +5,7 @@ ghost use Rattle.hp_solver.specs.PackedCut.{PackedCut};
 ghost use Rattle.hp_solver.specs.Coarse.{AreHeights, AreSteeps, IsCoarse};
 ghost use Rattle.hp_cut.specs.CoarseLists.{AreColumns, AreFrontColumns, IsCoarseFront, IsCoarseOf};
 
+use crate::cut_value::wrapped_value;
 use hp_solver::{CoarseCuts, CutList, slope_at};
 use std::alloc::Global;
 
@@ -18,10 +19,13 @@ const MOST_STATE_SHIFT: u32 = 63;
 /// state is below 0.
 #[derive(Drop)]
 pub(crate) struct Coarse {
-    /// For each cut at least its height, at scale 2^48 without the last digits, as many as both shifts say together.
-    heights: Vec<i64>,
+    /// For each cut how far its height lies above the base at most, at scale 2^48 without the last digits, as many as both shifts
+    /// say together.
+    heights: Vec<u32>,
     /// For each state a list of how far each cut falls with it at least, at scale 2^24 without the last digits.
-    steeps: Vec<Vec<u32>>,
+    steeps: Vec<Vec<u16>>,
+    /// The number above which heights are counted, at their scale.
+    base: i64,
     /// The number of binary digits that slopes are without.
     slope_shift: u32,
     /// The number of binary digits that states are to be without.
@@ -60,49 +64,49 @@ fn negative(value: i128) -> i128
 fn ceiling(value: i128, shift: u32) -> i128
     requires small { nat_abs value ≤ 2 ^ 124 }
     requires shift { shift ≤ 120 }
-    ensures { value ≤ℤ (result *ℤ pos (2 ^ shift)) }
+    ensures value { value ≤ℤ (result *ℤ pos (2 ^ shift)) }
+    ensures small { nat_abs result ≤ 2 ^ 124 }
 {
     negative(floored(negative(value), shift))
 }
 
-/// Gives a number in i64 where its size is at most 2^61.
-fn short(value: i128) -> Option<i64>
-    ensures { IfSome result (λ found. (found ≡ value) × (nat_abs found ≤ 2 ^ 61)) }
+/// Counts a number from a base, 0 where it is below. None where more than 32 digits are left.
+fn counted(value: i128, base: i64) -> Option<u32>
+    requires { nat_abs value ≤ 2 ^ 124 }
+    ensures { IfSome result (λ found. value ≤ℤ (base +ℤ pos found)) }
 {
-    if value.unsigned_abs() > 1 << 61 {
-        return None;
-    }
-    i64::try_from(value).ok()
+    u32::try_from((value - i128::from(base)).max(0)).ok()
 }
 
-/// Finds a height at scale 2^48 without its last digits, rounded up. None where its size is above 2^61.
-fn coarse_height(height: i128, shift: u32) -> Option<i64>
+/// Finds how far a height at scale 2^48 lies above a base at most, both without their last digits. None where more than 32 digits
+/// are left.
+fn coarse_height(height: i128, shift: u32, base: i64) -> Option<u32>
     requires small { nat_abs height < 2 ^ 100 }
     requires shift { shift ≤ 120 }
-    ensures { IfSome result (λ found. ((height *ℤ pos (2 ^ 24)) ≤ℤ (found *ℤ pos (2 ^ shift))) × (nat_abs found ≤ 2 ^ 61)) }
+    ensures { IfSome result (λ found. (height *ℤ pos (2 ^ 24)) ≤ℤ ((base +ℤ pos found) *ℤ pos (2 ^ shift))) }
 {
-    short(ceiling(at_fine_scale(height), shift))
+    counted(ceiling(at_fine_scale(height), shift), base)
 }
 
 /// Finds how far a cut falls with a state, without the last digits and rounded down. None where it rises, and where it does not
 /// fit.
-fn coarse_steep(slope: i64, shift: u32) -> Option<u32>
+fn coarse_steep(slope: i64, shift: u32) -> Option<u16>
     requires { shift ≤ 57 }
     ensures { IfSome result (λ found. (slope +ℤ pos (found * 2 ^ shift)) ≤ℤ pos 0) }
 {
     if slope > 0 {
         return None;
     }
-    u32::try_from(slope.unsigned_abs() >> shift).ok()
+    u16::try_from(slope.unsigned_abs() >> shift).ok()
 }
 
 /// Puts the height of one cut more behind those of others. False where it does not fit, and where memory was refused.
-fn push_height(heights: &mut Vec<i64>, height: i128, shift: u32) -> bool
+fn push_height(heights: &mut Vec<u32>, height: i128, shift: u32, base: i64) -> bool
     requires small { nat_abs height < 2 ^ 100 }
     requires shift { shift ≤ 120 }
-    ensures { result ≡ true → (cuts : List PackedCut) (cut : PackedCut) → cut.height ≡ height → AreHeights shift cuts heights.old.items → AreHeights shift (cuts ++ cut ∷ []) heights.new.items }
+    ensures { result ≡ true → (cuts : List PackedCut) (cut : PackedCut) → cut.height ≡ height → AreHeights shift base cuts heights.old.items → AreHeights shift base (cuts ++ cut ∷ []) heights.new.items }
 {
-    match coarse_height(height, shift) {
+    match coarse_height(height, shift, base) {
         Some(found) => heights.push(found).is_ok(),
         None => false,
     }
@@ -110,7 +114,7 @@ fn push_height(heights: &mut Vec<i64>, height: i128, shift: u32) -> bool
 
 /// Puts how far one cut more falls with a state behind those of others. False where it rises, where the number does not fit, and
 /// where memory was refused.
-fn push_steep(steeps: &mut Vec<u32>, slope: i64, shift: u32) -> bool
+fn push_steep(steeps: &mut Vec<u16>, slope: i64, shift: u32) -> bool
     requires { shift ≤ 57 }
     ensures { result ≡ true → (cuts : List PackedCut) (cut : PackedCut) (state : ℕ) → entry cut.slopes state ≡ slope → AreSteeps shift cuts state steeps.old.items → AreSteeps shift (cuts ++ cut ∷ []) state steeps.new.items }
 {
@@ -122,13 +126,19 @@ fn push_steep(steeps: &mut Vec<u32>, slope: i64, shift: u32) -> bool
 
 /// Keeps the first heights, as many as the count says, and puts those of the other cuts behind them. False where one does not
 /// fit, and where memory was refused.
-fn refill_heights(heights: &mut Vec<i64>, cuts: &CutList, kept: usize, shift: u32) -> bool
+fn refill_heights(
+    heights: &mut Vec<u32>,
+    cuts: &CutList,
+    kept: usize,
+    shift: u32,
+    base: i64,
+) -> bool
     requires { shift ≤ 120 }
-    ensures { result ≡ true → AreHeights shift (take kept cuts.now) (take kept heights.old.items) → AreHeights shift cuts.now heights.new.items }
+    ensures { result ≡ true → AreHeights shift base (take kept cuts.now) (take kept heights.old.items) → AreHeights shift base cuts.now heights.new.items }
 {
     heights.truncate(kept);
     for k in kept..cuts.len() {
-        if !push_height(heights, cuts.height(k), shift) {
+        if !push_height(heights, cuts.height(k), shift, base) {
             return false;
         }
     }
@@ -138,7 +148,7 @@ fn refill_heights(heights: &mut Vec<i64>, cuts: &CutList, kept: usize, shift: u3
 /// Keeps how far the first cuts fall with a state, as many as the count says, and puts those of the other cuts behind them.
 /// False where one rises, where a number does not fit, and where memory was refused.
 fn refill_steeps(
-    steeps: &mut Vec<u32>,
+    steeps: &mut Vec<u16>,
     cuts: &CutList,
     state: usize,
     kept: usize,
@@ -157,7 +167,7 @@ fn refill_steeps(
 }
 
 /// Does so for each state.
-fn refill_columns(columns: &mut [Vec<u32>], cuts: &CutList, kept: usize, shift: u32) -> bool
+fn refill_columns(columns: &mut [Vec<u16>], cuts: &CutList, kept: usize, shift: u32) -> bool
     requires { shift ≤ 57 }
     ensures count { length columns.new ≡ length columns.old }
     ensures steeps { result ≡ true → AreFrontColumns shift kept cuts.now columns.old → AreColumns shift cuts.now columns.new }
@@ -195,16 +205,25 @@ fn steepest(cuts: &CutList) -> u64 {
     most
 }
 
-/// Finds the greatest size of a height.
-fn highest(cuts: &CutList) -> u128 {
-    let mut most = 0;
+/// Finds the least value of cuts where all states are at the greatest ends of a box, wrapped into i128.
+fn lowest(cuts: &CutList, highs: &[i64]) -> i128 {
+    let mut least = i128::MAX;
     for k in 0..cuts.len() {
-        most = most.max(cuts.height(k).unsigned_abs());
+        least = least.min(wrapped_value(cuts.height(k), cuts.slopes(k), highs));
     }
-    most
+    least
 }
 
-/// Finds how many digits states are to be without, so that 24 are left of each state of a box.
+/// Finds how far the greatest height lies above the least value, wrapped into i128.
+fn span(cuts: &CutList, least: i128) -> u128 {
+    let mut most = least;
+    for k in 0..cuts.len() {
+        most = most.max(cuts.height(k));
+    }
+    most.wrapping_sub(least).unsigned_abs()
+}
+
+/// Finds how many digits states are to be without, so that 16 are left of each state of a box at scale 2^24.
 fn state_shift(highs: &[i64]) -> u32
     ensures { result ≤ 63 }
 {
@@ -212,22 +231,40 @@ fn state_shift(highs: &[i64]) -> u32
     for high in highs {
         most = most.max((*high).max(0).unsigned_abs());
     }
-    digits(u128::from(most)).min(MOST_STATE_SHIFT)
+    (digits(u128::from(most)) + 8).min(MOST_STATE_SHIFT)
 }
 
-/// Finds how many digits slopes are to be without, so that at most 32 are left of each slope and 61 of each height.
-fn slope_shift(cuts: &CutList, state_shift: u32) -> u32
+/// Finds how many digits heights are to be without, so that 32 are left of the span at scale 2^48, and 63 of the least value. A
+/// span that is just below a power of 2 counts as one digit more, which leaves room to round.
+fn height_shift(cuts: &CutList, least: i128) -> u32 {
+    let span = span(cuts, least);
+    let for_span = digits(span.saturating_add(span >> 30)).saturating_sub(8);
+    let for_base = digits(least.unsigned_abs()).saturating_sub(39);
+    for_span.max(for_base)
+}
+
+/// Finds how many digits slopes are to be without, so that at most 16 are left of each, and heights fit without as many and those
+/// that states are without.
+fn slope_shift(cuts: &CutList, least: i128, state_shift: u32) -> u32
     ensures { result ≤ 57 }
 {
-    let for_slopes = digits(u128::from(steepest(cuts))).saturating_sub(32);
-    let for_heights = digits(highest(cuts))
-        .saturating_sub(37)
-        .saturating_sub(state_shift);
+    let for_slopes = digits(u128::from(steepest(cuts))).saturating_sub(16);
+    let for_heights = height_shift(cuts, least).saturating_sub(state_shift);
     for_slopes.max(for_heights).min(MOST_SLOPE_SHIFT)
 }
 
+/// Finds the number above which heights are counted where this is the least value. 0 where it has too many digits.
+fn base_of(least: i128, shift: u32) -> i64
+    requires { shift ≤ 120 }
+{
+    if least.unsigned_abs() >= 1 << 100 {
+        return 0;
+    }
+    i64::try_from(floored(at_fine_scale(least), shift)).unwrap_or(0)
+}
+
 /// Makes room for how far cuts fall with each state. None where memory was refused.
-fn columns(alloc: Global, states: usize) -> Option<Vec<Vec<u32>>> {
+fn columns(alloc: Global, states: usize) -> Option<Vec<Vec<u16>>> {
     let mut found = Vec::new(alloc);
     for _ in 0..states {
         if found.push(Vec::new(alloc)).is_err() {
@@ -246,6 +283,7 @@ impl Coarse {
         let mut found = Coarse {
             heights: Vec::new(alloc),
             steeps: columns(alloc, cuts.states())?,
+            base: 0,
             slope_shift: 0,
             state_shift: 0,
         };
@@ -256,19 +294,21 @@ impl Coarse {
         }
     }
 
-    /// Becomes the cuts of a list in fewer digits, whatever was here. False where a cut rises with a state, where a number does
-    /// not fit, and where memory was refused.
+    /// Becomes the cuts of a list in fewer digits, which are chosen anew, as the base is. False where a cut rises with a state,
+    /// where a number does not fit, and where memory was refused.
     pub(crate) fn remake(&mut self, highs: &[i64], cuts: &CutList) -> bool
         ensures { result ≡ true → IsCoarseOf cuts.now self.new }
     {
+        let least = lowest(cuts, highs);
         self.state_shift = state_shift(highs);
-        self.slope_shift = slope_shift(cuts, self.state_shift);
+        self.slope_shift = slope_shift(cuts, least, self.state_shift);
+        self.base = base_of(least, self.slope_shift + self.state_shift);
         self.refill(cuts, 0)
     }
 
-    /// Keeps the first cuts, as many as the count says, and puts the other cuts of a list behind them in the digits that were
-    /// chosen. False where a cut rises with a state, where a number does not fit, where the cuts have more or fewer states, and
-    /// where memory was refused.
+    /// Keeps the first cuts, as many as the count says, and puts the other cuts of a list behind them, above the base and in the
+    /// digits that were chosen. False where a cut rises with a state, where a number does not fit, where the cuts have more or
+    /// fewer states, and where memory was refused.
     pub(crate) fn refill(&mut self, cuts: &CutList, kept: usize) -> bool
         ensures { result ≡ true → IsCoarseFront kept cuts.now self.old → IsCoarseOf cuts.now self.new }
     {
@@ -280,8 +320,14 @@ impl Coarse {
         {
             return false;
         }
-        refill_heights(&mut self.heights, cuts, kept, slope_shift + state_shift)
-            && refill_columns(self.steeps.as_mut_slice(), cuts, kept, slope_shift)
+        let base = self.base;
+        refill_heights(
+            &mut self.heights,
+            cuts,
+            kept,
+            slope_shift + state_shift,
+            base,
+        ) && refill_columns(self.steeps.as_mut_slice(), cuts, kept, slope_shift)
     }
 
     /// Lends them.
@@ -291,6 +337,7 @@ impl Coarse {
         CoarseCuts {
             heights: self.heights.as_slice(),
             steeps: self.steeps.as_slice(),
+            base: self.base,
             slope_shift: self.slope_shift,
             state_shift: self.state_shift,
         }

@@ -70,7 +70,7 @@ impl Copies {
 
     /// Copies the cut at a place of a list behind the others. [`Memory`] where memory was refused, where the cut has more or
     /// fewer slopes than the others, and where there are too many.
-    fn push(&mut self, cuts: &CutList, place: u32) -> Result<(), Memory>
+    pub(crate) fn push(&mut self, cuts: &CutList, place: u32) -> Result<(), Memory>
         requires { place < length cuts.now }
         ensures { OnOk result (self.new ≡ self.old ++ packed_cut_at cuts.now place ∷ []) }
     {

@@ -1,5 +1,5 @@
 // The value of a cut at a state, and the greatest of them.
-ghost use Rattle.std.specs.Prelude.{◌≡◌, ◌^◌, ◌<◌, ℤ, pos, ◌+ℤ◌, ◌≤ℤ◌, ◌<ℤ◌, length, All};
+ghost use Rattle.std.specs.Prelude.{◌≡◌, ◌^◌, ◌<◌, ℤ, pos, ◌+ℤ◌, ◌*ℤ◌, ◌≤ℤ◌, ◌<ℤ◌, length, All};
 ghost use Rattle.std.specs.Int.{int_max};
 ghost use Rattle.hp_num.specs.Sums.{dot};
 ghost use Rattle.hp_theory.specs.Size.{magnitude, magnitudes};
@@ -61,4 +61,20 @@ fn greater(a: i128, b: i128) -> i128
     ensures small { magnitude result ≤ℤ pos (2 ^ 104) }
 {
     a.max(b)
+}
+
+/// Multiplies two numbers, always in range.
+pub(crate) fn product(a: i64, b: i64) -> i128
+    ensures { result ≡ a *ℤ b }
+{
+    i128::from(a) * i128::from(b)
+}
+
+/// Finds the value of a cut at a state, wrapped into i128.
+pub(crate) fn wrapped_value(height: i128, slopes: &[i64], state: &[i64]) -> i128 {
+    let mut value = height;
+    for (slope, own) in slopes.iter().zip(state.iter()) {
+        value = value.wrapping_add(product(*slope, *own));
+    }
+    value
 }

@@ -92,11 +92,14 @@ impl<'a> CutList<'a> {
 /// rises with a state.
 #[derive(Clone, Copy)]
 pub struct CoarseCuts<'a> {
-    /// For each cut at least its height, at scale 2^48 without the last digits, as many as both shifts say together.
-    pub heights: &'a [i64],
+    /// For each cut how far its height lies above the base at most, at scale 2^48 without the last digits, as many as both shifts
+    /// say together.
+    pub heights: &'a [u32],
     /// For each state a list of how far each cut falls with it at least, at scale 2^24 without the last digits, as many as the shift
     /// of slopes says.
-    pub steeps: &'a [Vec<u32>],
+    pub steeps: &'a [Vec<u16>],
+    /// The number above which heights are counted, at their scale.
+    pub base: i64,
     /// The number of binary digits that slopes are without.
     pub slope_shift: u32,
     /// The number of binary digits that states are to be without.
@@ -115,7 +118,7 @@ pub struct ActiveCuts<'a> {
     pub highs: &'a [i64],
     /// The cuts at these places, side by side in their order.
     pub cuts: CutList<'a>,
-    /// The same cuts in fewer binary digits, where these are known.
+    /// The same cuts in fewer binary digits, if the pool keeps these too.
     pub coarse: Option<CoarseCuts<'a>>,
 }
 

@@ -6,6 +6,7 @@ use Rattle.std.proofs.lemmas.Int.{ints}
 use Rattle.hp_solver.specs.PackedCut.{PackedCut}
 use Rattle.hp_solver.specs.Covering.{value_of, packed_cut_at, AreInside, IsBefore, IsCovered, AreRisingPlaces, CoverAll}
 use Rattle.hp_warm_scale.specs.Walks.{walk, count_from}
+use Rattle.hp_warm_scan.specs.Bounds.{IsFirst}
 use Rattle.hp_warm_scan.specs.Values.{Valued, is_value_greater, greater_valued}
 
 -- go on from what holds below a number, and of that
@@ -126,8 +127,12 @@ record Covering (f : ℕ → ℤ) (ps : List ℕ) (j : ℕ) : Type 0 where
   among : IsAmong ps place
   before : IsBefore place (f place) j (f j)
 
-not_less : (i j : ℕ) (x y : ℤ) → IsBefore i x j y → y ≤ℤ x
+pub not_less : (i j : ℕ) (x y : ℤ) → IsBefore i x j y → y ≤ℤ x
 not_less i j x y h = ⊎_elim (λ (a : y <ℤ x). omega (arith, ints, a)) (λ (a : (y ≤ℤ x) × (i ≤ j)). a.0) h
+
+-- a cut comes before itself
+pub itself : (p : ℕ) (x : ℤ) → IsBefore p x p x
+itself p x = inr (omega (arith, ints), omega arith)
 
 -- find one place for three cuts, each before the next and the last before the first
 one_place : (p q r : ℕ) (x y z : ℤ) → IsBefore p x q y → IsBefore q y r z → IsBefore r z p x → p ≡ q
@@ -216,3 +221,23 @@ covered_same xs first b cs ps lows highs h box =
     sym (same_greatest f b first all ps _ _ (all_inside n ps (covering_below cs ps lows highs h)) (all_covered xs cs ps lows highs h box) whole part)
     ∙ sym (all_places xs f first 0 0 b cs (λ i l. let e : 0 + i ≡ i = omega arith in ap f e))
     ∙ ap (λ (i : ℕ). walk (λ i b (c : PackedCut). greater_valued b (i, value_of c xs)) i b cs) start
+
+-- find the first of the greatest by a walk from no cut
+pub first_of_all : (xs : List ℤ) (cs : List PackedCut) (best : Valued) → IsFirst cs xs (length cs) best → Some best ≡ walk (λ i b (c : PackedCut). greater_valued b (i, value_of c xs)) 0 None cs
+first_of_all xs cs best h =
+    let f : ℕ → ℤ = λ p. value_of (packed_cut_at cs p) xs in
+    let n : ℕ = length cs in
+    let all : List ℕ = count_from 0 n in
+    let rises = count_rises 0 n n (omega arith) in
+    let own : IsAmong all best.0 = record { index = best.0; there = omega (arith, h.there, count_length 0 n); is = count_own n best.0 0 h.there } in
+    let found : Some best ≡ greatest_at f 0 0 None all = ⊎_elim
+    (λ (s : Stays f None all (greatest_at f 0 0 None all)). let no : true ≡ false = held (λ (p : ℕ). is_value_greater None (f p) ≡ false) all best.0 own s.1 in absurd (cc))
+    (λ (c : Comes f 0 None all (greatest_at f 0 0 None all)).
+    let there : c.place < n = held (λ (p : ℕ). p < n) all c.place c.among (places_below 0 n all rises) in
+    let first : IsBefore best.0 (f best.0) c.place (f c.place) = subst (λ (x : ℤ). IsBefore best.0 x c.place (f c.place)) h.value (h.first c.place there) in
+    let back : IsBefore c.place (f c.place) best.0 (f best.0) = held (λ (q : ℕ). IsBefore c.place (f c.place) q (f q)) all best.0 own c.before in
+    let e : best.0 ≡ c.place = one_place best.0 c.place best.0 (f best.0) (f c.place) (f best.0) first back (itself best.0 (f best.0)) in
+    let same : best.0 ≡ 0 + c.place = omega (arith, e) in
+    ◌∙◌ {b = Some (0 + c.place, f c.place)} (ap₂ (λ (i : ℕ) (x : ℤ). Some (i, x)) same (h.value ∙ ap f e)) (sym c.is))
+    (by_places f 0 0 n 0 None all rises) in
+    ◌∙◌ {b = greatest_at f 0 0 None all} found (sym (all_places xs f 0 0 0 None cs (λ i l. let e : 0 + i ≡ i = omega arith in ap f e)))

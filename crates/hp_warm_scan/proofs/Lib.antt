@@ -3,7 +3,6 @@ pub mod Columns
 pub mod Covered
 pub mod Digits
 pub mod Grown
-pub mod Lowered
 pub mod Narrow
 pub mod Numbered
 pub mod PackedValues

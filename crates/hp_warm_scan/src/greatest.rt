@@ -7,7 +7,7 @@ ghost use Rattle.hp_warm_scale.specs.Walks.{walk};
 ghost use Rattle.hp_warm_scale.specs.Waiting.{last_column, waits};
 ghost use Rattle.hp_warm_scan.specs.Values.{is_value_greater, greatest_step, greatest_cuts, AreWaitingCutsWithin, AreBestCuts, IsValueWithin};
 
-use crate::packed::{Lookup, take_packed, write_leaving};
+use crate::packed::{LeavingStates, Lookup, take_packed, write_leaving};
 use crate::refilled::refill;
 use crate::values::cut_value;
 use hp_num::{List, Memory};
@@ -104,7 +104,7 @@ fn take_view(
     lookup: &Lookup,
     lp: &StageLp,
     view: &PackedView,
-    leaving: &mut List<i64>,
+    leaving: &mut LeavingStates,
     row: &mut LpRow,
 ) -> Result<(), Memory>
     requires view { IsView view.now }
@@ -116,8 +116,8 @@ fn take_view(
     ensures value { OnOk result (greatest.new ≡ walk (λ i bests (r : LpRow). greatest_step lookup.now.waiting.now lookup.now.states.now i bests r) lookup.now.first greatest.old (drop lookup.now.first lp.now.rows)) }
     ensures count { length greatest.new ≡ length greatest.old }
 {
-    if write_leaving(lookup.states, view.outs.as_slice(), leaving)? {
-        take_packed(greatest, lookup, leaving.as_slice(), view);
+    if write_leaving(lookup.states, view.outs.as_slice(), &mut leaving.states)? {
+        take_packed(greatest, lookup, leaving, view);
         Ok(())
     } else {
         take_written(greatest, lookup, lp, row)
@@ -131,7 +131,7 @@ fn take_all(
     waiting: &[bool],
     states: &[i128],
     lp: &StageLp,
-    leaving: &mut List<i64>,
+    leaving: &mut LeavingStates,
     row: &mut LpRow,
 ) -> Result<(), Memory>
     requires proper { IsProper lp.now }
@@ -157,13 +157,13 @@ fn take_all(
 }
 
 /// Writes for each column the row of the greatest of its cuts that wait, and its value, at some states. Writes beside it the
-/// outgoing states, where cuts stand side by side, and may write a row. [`Memory`] where memory was refused.
+/// outgoing states and bounds, where cuts stand side by side, and may write a row. [`Memory`] where memory was refused.
 pub fn write_greatest(
     greatest: &mut List<Option<(usize, i128)>>,
     waiting: &[bool],
     states: &[i128],
     lp: &StageLp,
-    leaving: &mut List<i64>,
+    leaving: &mut LeavingStates,
     row: &mut LpRow,
 ) -> Result<(), Memory>
     requires proper { IsProper lp.now }

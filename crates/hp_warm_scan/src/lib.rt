@@ -2,6 +2,7 @@
 #![tactic(auto)]
 
 mod bounds;
+mod first;
 pub mod greatest;
 pub mod packed;
 mod refilled;

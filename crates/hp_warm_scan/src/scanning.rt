@@ -14,6 +14,7 @@ ghost use Rattle.hp_warm_scan.specs.Scan.{scanned, is_value_below, where_violate
 ghost use Rattle.hp_warm_scan.specs.Steps.{Grows, Asks, Scans};
 
 use crate::greatest::write_greatest;
+use crate::packed::LeavingStates;
 use crate::values::write_states;
 use hp_num::{List, Memory};
 use hp_solver::{Fx, LpRow, StageLp, blank_row};
@@ -49,8 +50,8 @@ struct ScanWork {
     point: List<Fx>,
     // The decisions at that point at which cuts are compared.
     states: List<i128>,
-    // The states that leave the stage.
-    leaving: List<i64>,
+    // The states that leave the stage, and bounds of cuts there.
+    leaving: LeavingStates,
     // For each column the row of the greatest of its cuts that wait, and its value.
     greatest: List<Option<(usize, i128)>>,
     // The last row that was looked at.
@@ -78,7 +79,7 @@ impl Room {
         let work = ScanWork {
             point: List::new(alloc),
             states: List::new(alloc),
-            leaving: List::new(alloc),
+            leaving: LeavingStates::new(alloc),
             greatest: List::new(alloc),
             added: AddedRow {
                 row: blank_row(alloc),

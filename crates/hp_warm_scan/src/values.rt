@@ -1,12 +1,14 @@
 // Find the values of cuts at a point.
 ghost use Rattle.std.specs.Prelude.{◌≡◌, ◌^◌, ◌+◌, ◌<◌, ◌≤◌, pos, neg_ℤ, ◌+ℤ◌, ◌*ℤ◌, map, length, nat_abs, All, IfSome, OnOk, FitsSigned};
 ghost use Rattle.std.specs.Int.{w64};
-ghost use Rattle.hp_num.specs.Sums.{floor_over};
+ghost use Rattle.hp_num.specs.Sums.{floor_over, dot};
+ghost use Rattle.hp_solver.specs.PackedCut.{PackedCut};
+ghost use Rattle.hp_solver.specs.Covering.{value_of, packed_cut_at};
 ghost use Rattle.hp_warm_scale.specs.Walks.{walk};
 ghost use Rattle.hp_warm_scan.specs.Values.{state_number, height_of, slope_of, plus_slope, cut_row_value, IsPlain, IsValueWithin};
 
 use hp_num::{List, Memory};
-use hp_solver::{Fx, LpRow};
+use hp_solver::{CutList, Fx, LpRow};
 use hp_warm_scale::waiting::slopes;
 
 // Divides a number by 2^8, rounded down.
@@ -59,6 +61,30 @@ pub(crate) fn plus(x: i128, y: i128) -> i128
     ensures small { nat_abs result ≤ nat_abs x + 2 ^ 120 }
 {
     x + y
+}
+
+// Finds the value of a cut at the state that leaves the stage, at the scale 2^48.
+fn packed_value(height: i128, slopes: &[i64], leaving: &[i64]) -> i128
+    requires height { nat_abs height < 2 ^ 100 }
+    requires slopes { All (λ s. nat_abs s < 2 ^ 57) slopes.now }
+    requires few { length slopes.now ≤ 50 }
+    requires count { length slopes.now ≡ length leaving.now }
+    ensures { result ≡ height *ℤ pos (2 ^ 24) +ℤ dot slopes.now leaving.now }
+{
+    let mut sum = raised(height);
+    for k in 0..slopes.len() {
+        sum = plus(sum, product(slopes[k], leaving[k]));
+    }
+    sum
+}
+
+/// Finds the value of a cut of a list at the state that leaves the stage, at the scale 2^48.
+pub(crate) fn value_at(cuts: &CutList, place: usize, leaving: &[i64]) -> i128
+    requires there { place < length cuts.now }
+    requires counts { All (λ (c : PackedCut). length c.slopes ≡ length leaving.now) cuts.now }
+    ensures { result ≡ value_of (packed_cut_at cuts.now place) leaving.now }
+{
+    packed_value(cuts.height(place), cuts.slopes(place), leaving)
 }
 
 // Finds the value of a cut with one more slope times its state.

@@ -223,16 +223,17 @@ fn keeps_the_places_of_covering_cuts(rt: HostRuntime) -> Result<(), Fail> {
     Ok(())
 }
 
-// The height of a covering cut in fewer digits, and how far it falls with the first state.
-fn coarse_numbers(cuts: &PackedCuts, place: usize) -> Option<(i64, u32)> {
+// The base of covering cuts in fewer digits, how far the height of one of them lies above it, and how far it falls with the first
+// state.
+fn coarse_numbers(cuts: &PackedCuts, place: usize) -> Option<(i64, u32, u16)> {
     let coarse = cuts.active()?.coarse?;
     let height = coarse.heights.get(place)?;
     let steep = coarse.steeps.first()?.as_slice().get(place)?;
-    Some((*height, *steep))
+    Some((coarse.base, *height, *steep))
 }
 
 // Gives these numbers of a covering cut of node 0.
-fn coarse(pools: &Pools, place: usize) -> Option<(i64, u32)> {
+fn coarse(pools: &Pools, place: usize) -> Option<(i64, u32, u16)> {
     if pools.nodes() > 0 {
         let cuts = pools.packed(0)?;
         coarse_numbers(&cuts, place)
@@ -241,13 +242,14 @@ fn coarse(pools: &Pools, place: usize) -> Option<(i64, u32)> {
     }
 }
 
-// Tells whether covering cuts are kept in fewer digits until one rises: of a state up to 10 go 4 digits, and 20 - 3x covers 9 - 2x.
+// Tells whether covering cuts are kept in fewer digits until one rises: of a state up to 10 go 12 digits, and so of 24 that heights
+// get. The cut 9 - 2x is -11 at 10, the base. The cut 20 - 3x covers it, and is -10 there.
 fn keeps_coarse(alloc: Global, pools: &mut Pools) -> bool {
     pushes(alloc, pools, 0, 9, -2)
         && prepares(alloc, pools)
-        && coarse(pools, 0) == Some((9 << 20, 2))
+        && coarse(pools, 0) == Some((-11 * 4096, 20 * 4096, 2))
         && pushes(alloc, pools, 0, 20, -3)
-        && coarse(pools, 0) == Some((20 << 20, 3))
+        && coarse(pools, 0) == Some((-10 * 4096, 30 * 4096, 3))
         && pushes(alloc, pools, 0, 30, 1)
         && coarse(pools, 0).is_none()
 }

@@ -10,7 +10,7 @@ pub returns-then-is_waiting-clause-value : goal.returns-then-is_waiting-clause-v
 returns-then-is_waiting-clause-value c =
     let bests = c.args.greatest.now in
     let waits = sym c.is_waiting.ensures ∙ c.if-is_waiting.true in
-    ap (λ (b : Option Valued). slice_set bests c.args.column b) (c.take_best.ensures ∙ ap (λ (ls : List ℤ). walk (λ i b (c : PackedCut). greater_valued b (i, value_of c ls)) c.args.lookup.now.first (get_or bests c.args.column None) c.args.cuts.now) (c.front-leaving.ensures ∙ ap (take c.states.result) c.requires.leaving))
+    ap (λ (b : Option Valued). slice_set bests c.args.column b) (c.take_best.ensures ∙ ap (λ (ls : List ℤ). walk (λ i b (c : PackedCut). greater_valued b (i, value_of c ls)) c.args.lookup.now.first (get_or bests c.args.column None) c.args.cuts.now) (c.front-states.ensures ∙ ap (take c.states.result) (c.as_slice.ensures ∙ c.requires.leaving)))
     ∙ sym (cuts_come c.args.lookup.now.waiting.now c.args.lookup.now.states.now c.args.lookup.now.first bests c.args.outs.now c.args.column c.states.result c.args.cuts.now c.states.ensures.slopes c.states.ensures.few waits (true_inside c.args.lookup.now.waiting.now c.args.column _ waits c.requires.waiting) c.requires.within)
 
 pub returns-else-is_waiting-clause-value : goal.returns-else-is_waiting-clause-value
