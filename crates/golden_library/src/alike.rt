@@ -12,7 +12,7 @@ fn is_same_column(a: &Column, b: &Column) -> bool
 }
 
 /// Tells whether two lists of columns are the same.
-#[tactic(auto, using(crate::proofs::Same::same_more))]
+#[tactic(auto, using(hp_cut_making::proofs::SameFronts::same_more))]
 fn are_same_columns(a: &[Column], b: &[Column]) -> bool
     ensures { result ≡ true → a.now ≡ b.now }
 {
@@ -34,7 +34,7 @@ fn is_same_term(a: (u32, Fx), b: (u32, Fx)) -> bool
 }
 
 /// Tells whether two lists of terms are the same.
-#[tactic(auto, using(crate::proofs::Same::same_more))]
+#[tactic(auto, using(hp_cut_making::proofs::SameFronts::same_more))]
 fn are_same_terms(a: &[(u32, Fx)], b: &[(u32, Fx)]) -> bool
     ensures { result ≡ true → a.now ≡ b.now }
 {
@@ -78,7 +78,7 @@ fn is_same_row(a: &LpRow, b: &LpRow) -> bool
 }
 
 /// Tells whether two lists of rows are the same.
-#[tactic(auto, using(crate::proofs::Same::same_more))]
+#[tactic(auto, using(hp_cut_making::proofs::SameFronts::same_more))]
 fn are_same_rows(a: &[LpRow], b: &[LpRow]) -> bool
     ensures { result ≡ true → a.now ≡ b.now }
 {

@@ -13,3 +13,4 @@ pub mod Divisor
 pub mod ValidatedCuttable
 pub mod Beside
 pub mod CutSlopes
+pub mod SameFronts

@@ -7,3 +7,4 @@ pub mod SizeByTerms
 pub mod Sized
 pub mod Reweighting
 pub mod NodeParts
+pub mod FixedParts

@@ -1,5 +1,5 @@
 -- Tables of numbers that are kept modulo 2^128.
-use Rattle.std.specs.Prelude.{◌≡◌, ℕ, ◌<◌, ℤ, List, length, Option, Some, None, Result, Ok, Err}
+use Rattle.std.specs.Prelude.{◌≡◌, ℕ, ◌<◌, ◌≤◌, ℤ, List, length, Option, Some, None, Result, Ok, Err}
 use Rattle.hp_num.specs.Sums.{entry}
 use Rattle.hp_parts.specs.declared.parts.Node.{Node}
 use Rattle.hp_parts.specs.declared.parts.Subproblem.{Subproblem}
@@ -21,5 +21,5 @@ SumsInRange weights n s list range (Err r) = range ≡ Some r
 
 -- the costs of a subproblem's decisions at their scale
 pub record IsScaled (table : ScaledCosts) (s : Subproblem) : Type 0 where
-  pub count : length table.costs ≡ 200
-  pub costs : Tabled (costs_at_scale table.scale s) table.costs
+  pub room : length s.decisions ≤ length table.costs.now
+  pub costs : Tabled (costs_at_scale table.scale s) table.costs.now

@@ -5,17 +5,22 @@ ghost use Rattle.hp_theory.specs.View.{node_of};
 ghost use Rattle.hp_theory.specs.declared.cut.Certificate.{Certificate};
 ghost use Rattle.hp_theory.specs.CutOf.{scale, alpha_sum};
 ghost use Rattle.hp_cut_making.specs.Congruent.{Congruent};
+ghost use Rattle.hp_cut_making.specs.FixedParts.{IsFixedAt, IsFixedBefore};
 ghost use Rattle.hp_cut_making.specs.Parts.{Limited, PairsThere, ReducedFit, costs_at_scale, over_successors, least_at, constant_at_scale};
 ghost use Rattle.hp_cut_making.specs.Tabled.{Tabled, IsScaled};
 
 use crate::constants::{boxes_least, products, sides, successor_constants};
 use crate::node_at::NodeAt;
-use crate::reduced_costs::{add_costs, add_multipliers};
-use crate::scaled_costs::ScaledCosts;
+use crate::reduced_costs::add_multipliers;
+use crate::same::is_same;
+use crate::scaled_costs::{ScaledCosts, write_costs};
 use crate::scales::{SCALE, scale};
 use crate::wrapping::{wrapping_add, wrapping_add_product};
 use hp_parts::MOST_DECISIONS;
 use hp_theory::Certificate;
+
+/// The number of decisions up to which shorter tables are enough, which take less time to clear.
+const FEW_DECISIONS: usize = 32;
 
 /// The sum of the least products of the reduced costs over the decisions' boxes, modulo 2^128. The table has the
 /// decisions' costs at the scale before, and the reduced costs behind.
@@ -55,6 +60,27 @@ fn fixed_part(reduced: &mut [i128], here: &NodeAt, certificate: &Certificate) ->
     wrapping_add(pairs, least)
 }
 
+/// The part of A_r that is the same at all values, modulo 2^128, by a table of zeros with room for the decisions' reduced costs.
+fn fixed_constant_by(
+    table: &mut [i128],
+    scale: i128,
+    here: &NodeAt,
+    certificate: &Certificate,
+) -> i128
+    requires limits { Limited here.now.node.now here.now.subproblem.now }
+    requires known { All (λ m. m < length here.now.pools.now.lists) here.now.node.now.successors }
+    requires there { PairsThere here.now.pools.now.lists here.now.node.now.successors certificate.now.cuts }
+    requires small { ReducedFit scale here.now.pools.now.lists here.now.node.now here.now.subproblem.now certificate.now }
+    requires zeros { Tabled (λ j. pos 0) table.old }
+    requires room { length here.now.subproblem.now.decisions ≤ length table.old }
+    ensures { Congruent result (over_successors here.now.pools.now.lists here.now.node.now.successors certificate.now.cuts (λ cut. cut.alpha)
+        +ℤ least_at scale here.now.pools.now.lists here.now.node.now here.now.subproblem.now certificate.now) }
+{
+    let decisions = here.subproblem.decisions.as_slice();
+    write_costs(table, scale, decisions);
+    fixed_part(&mut table[..decisions.len()], here, certificate)
+}
+
 /// Gives the part of A_r that is the same at all values, for one certificate alone, modulo 2^128.
 pub fn fixed_constant(scale: i128, here: &NodeAt, certificate: &Certificate) -> i128
     requires limits { Limited here.now.node.now here.now.subproblem.now }
@@ -64,10 +90,11 @@ pub fn fixed_constant(scale: i128, here: &NodeAt, certificate: &Certificate) -> 
     ensures { Congruent result (over_successors here.now.pools.now.lists here.now.node.now.successors certificate.now.cuts (λ cut. cut.alpha)
         +ℤ least_at scale here.now.pools.now.lists here.now.node.now here.now.subproblem.now certificate.now) }
 {
-    let decisions = here.subproblem.decisions.as_slice();
-    let mut reduced: [i128; MOST_DECISIONS] = [0; MOST_DECISIONS];
-    add_costs(&mut reduced, scale, decisions);
-    fixed_part(&mut reduced[..decisions.len()], here, certificate)
+    if here.subproblem.decisions.len() <= FEW_DECISIONS {
+        fixed_constant_by(&mut [0; FEW_DECISIONS], scale, here, certificate)
+    } else {
+        fixed_constant_by(&mut [0; MOST_DECISIONS], scale, here, certificate)
+    }
 }
 
 /// A_r, modulo 2^128, over its fixed part.
@@ -95,27 +122,33 @@ pub fn constant_over(
     wrapping_add(staged, fixed)
 }
 
-/// A_r, modulo 2^128. The table has room for the decisions' reduced costs.
-fn constant_of(
+/// The part of A_r that is the same at all values, for the certificate of a realization, modulo 2^128. Where the one before is the
+/// same certificate, its part is taken over. The table has room for the decisions' reduced costs.
+fn fixed_at(
     reduced: &mut [i128],
     costs: &ScaledCosts,
     here: &NodeAt,
-    values: &[i64],
-    certificate: &Certificate,
+    list: &[Certificate],
+    realization: usize,
+    before: i128,
 ) -> i128
     requires limits { Limited here.now.node.now here.now.subproblem.now }
     requires known { All (λ m. m < length here.now.pools.now.lists) here.now.node.now.successors }
-    requires there { PairsThere here.now.pools.now.lists here.now.node.now.successors certificate.now.cuts }
+    requires there { All (λ (c : Certificate). PairsThere here.now.pools.now.lists here.now.node.now.successors c.cuts) list.now }
     requires count { length reduced.old ≡ length here.now.subproblem.now.decisions }
     requires costs { IsScaled costs.now here.now.subproblem.now }
-    requires values { length values.now ≡ length here.now.subproblem.now.randoms }
-    requires small { ReducedFit costs.now.scale here.now.pools.now.lists here.now.node.now here.now.subproblem.now certificate.now }
+    requires small { All (ReducedFit costs.now.scale here.now.pools.now.lists here.now.node.now here.now.subproblem.now) list.now }
+    requires inside { realization < length list.now }
+    requires before { IsFixedBefore costs.now.scale here.now.pools.now.lists here.now.node.now here.now.subproblem.now list.now realization before }
     ensures count { length reduced.new ≡ length reduced.old }
-    ensures value { Congruent result (constant_at_scale costs.now.scale here.now.pools.now.lists here.now.node.now here.now.subproblem.now values.now certificate.now) }
+    ensures value { IsFixedAt costs.now.scale here.now.pools.now.lists here.now.node.now here.now.subproblem.now list.now realization result }
 {
+    let certificate = &list[realization];
+    if 0 < realization && is_same(&list[realization - 1], certificate) {
+        return before;
+    }
     costs.copy_into(reduced);
-    let fixed = fixed_part(reduced, here, certificate);
-    constant_over(fixed, costs.scale, here, values, certificate)
+    fixed_part(reduced, here, certificate)
 }
 
 /// A: the sum over the realizations of the weight times A_r, modulo 2^128. The table has room for the decisions' reduced
@@ -139,12 +172,40 @@ fn weighted_constants(
         → Congruent result (alpha_sum here.now.pools.now.lists (with_weights here.now.weights.now (node_of here.now.node.now here.now.subproblem.now low high)) list.now) }
 {
     let mut sum: i128 = 0;
+    let mut fixed: i128 = 0;
     for r in 0..here.weights.len() {
         let values = here.node.values.as_slice()[r].as_slice();
-        let constant = constant_of(reduced, costs, here, values, &list[r]);
+        fixed = fixed_at(reduced, costs, here, list, r, fixed);
+        let constant = constant_over(fixed, costs.scale, here, values, &list[r]);
         sum = wrapping_add_product(sum, i128::from(here.weights[r]), constant);
     }
     sum
+}
+
+/// A, modulo 2^128, by two tables with room for the decisions: one for their reduced costs, and zeros for their costs at the scale.
+fn constant_sum_by(
+    reduced: &mut [i128],
+    costs: &mut [i128],
+    here: &NodeAt,
+    list: &[Certificate],
+) -> i128
+    requires limits { Limited here.now.node.now here.now.subproblem.now }
+    requires count { length here.now.weights.now ≡ length here.now.node.now.weights }
+    requires list { length list.now ≡ length here.now.node.now.weights }
+    requires known { All (λ m. m < length here.now.pools.now.lists) here.now.node.now.successors }
+    requires there { All (λ (c : Certificate). PairsThere here.now.pools.now.lists here.now.node.now.successors c.cuts) list.now }
+    requires small { All (ReducedFit (scale (node_of here.now.node.now here.now.subproblem.now [] [])) here.now.pools.now.lists here.now.node.now here.now.subproblem.now) list.now }
+    requires zeros { Tabled (λ j. pos 0) costs.old }
+    requires room { length here.now.subproblem.now.decisions ≤ length reduced.old }
+    requires room_too { length here.now.subproblem.now.decisions ≤ length costs.old }
+    ensures { (low high : List ℤ)
+        → Congruent result (alpha_sum here.now.pools.now.lists (with_weights here.now.weights.now (node_of here.now.node.now here.now.subproblem.now low high)) list.now) }
+{
+    let decisions = here.subproblem.decisions.as_slice();
+    let scale = scale(here.node);
+    write_costs(costs, scale, decisions);
+    let costs = ScaledCosts { scale, costs };
+    weighted_constants(&mut reduced[..decisions.len()], &costs, here, list)
 }
 
 /// A: the sum over the realizations of the weight times A_r, modulo 2^128.
@@ -158,8 +219,11 @@ pub fn constant_sum(here: &NodeAt, list: &[Certificate]) -> i128
     ensures { (low high : List ℤ)
         → Congruent result (alpha_sum here.now.pools.now.lists (with_weights here.now.weights.now (node_of here.now.node.now here.now.subproblem.now low high)) list.now) }
 {
-    let decisions = here.subproblem.decisions.as_slice();
-    let costs = ScaledCosts::of(scale(here.node), decisions);
-    let mut reduced: [i128; MOST_DECISIONS] = [0; MOST_DECISIONS];
-    weighted_constants(&mut reduced[..decisions.len()], &costs, here, list)
+    if here.subproblem.decisions.len() <= FEW_DECISIONS {
+        let mut reduced: [i128; FEW_DECISIONS] = [0; FEW_DECISIONS];
+        constant_sum_by(&mut reduced, &mut [0; FEW_DECISIONS], here, list)
+    } else {
+        let mut reduced: [i128; MOST_DECISIONS] = [0; MOST_DECISIONS];
+        constant_sum_by(&mut reduced, &mut [0; MOST_DECISIONS], here, list)
+    }
 }

@@ -7,7 +7,7 @@ mod rows;
 mod stages;
 mod terms;
 
-pub(crate) use fixed::{FixedAmounts, write_rows};
+pub(crate) use fixed::{FEW_ROWS, FixedAmounts, write_rows};
 pub(crate) use range::{remainders_range, sums_in_range};
 pub(crate) use repeated::repeated_range;
 pub(crate) use stages::realization_size;

@@ -25,16 +25,17 @@ fn decision_column(weight: u32, decision: &Decision) -> Column
     }
 }
 
-/// The decisions' columns, whose costs count as often as the weight says.
+/// The decisions' columns, whose costs count as often as the weight says, with room for those of so many successors.
 pub(crate) fn decision_columns(
     alloc: Global,
     weight: u32,
     decisions: &[Decision],
+    successors: usize,
 ) -> Result<List<Column>, Memory>
     ensures { IfOk result (λ found. found ≡ map (decision_column weight) decisions.now) }
 {
-    // Room for a successor's column too.
-    let mut found = List::from_vec(Vec::with_capacity(alloc, decisions.len().saturating_add(1))?);
+    let room = decisions.len().saturating_add(successors);
+    let mut found = List::from_vec(Vec::with_capacity(alloc, room)?);
     for decision in decisions {
         found.push(decision_column(weight, decision))?;
     }

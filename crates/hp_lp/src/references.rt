@@ -93,7 +93,12 @@ fn reference_of<'a>(
     requires parts { HasReference stage.now.node.now stage.now.subproblem.now low.now high.now }
     ensures { IfOk result (λ lp. lp ≡ reference_of stage.now.node.now stage.now.subproblem.now low.now high.now) }
 {
-    let mut columns = decision_columns(alloc, stage.weight, stage.subproblem.decisions.as_slice())?;
+    let mut columns = decision_columns(
+        alloc,
+        stage.weight,
+        stage.subproblem.decisions.as_slice(),
+        stage.node.successors.len(),
+    )?;
     push_idle_columns(&mut columns, stage.node.successors.as_slice())?;
     Ok(StageLp::of(Program {
         columns,

@@ -54,7 +54,12 @@ fn columns(alloc: Global, stage: &StageNode, pools: &Pools) -> Result<List<Colum
     ensures { IfOk result (λ found. found ≡ map (decision_column stage.now.weight) stage.now.subproblem.now.decisions
         ++ future_columns stage.now.subproblem.now pools.now.lists stage.now.node.now.successors stage.now.node.now.successor_weights) }
 {
-    let mut found = decision_columns(alloc, stage.weight, stage.subproblem.decisions.as_slice())?;
+    let mut found = decision_columns(
+        alloc,
+        stage.weight,
+        stage.subproblem.decisions.as_slice(),
+        stage.node.successors.len(),
+    )?;
     push_future_columns(
         alloc,
         &mut found,

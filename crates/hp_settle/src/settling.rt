@@ -1,5 +1,6 @@
 // Certificates from the duals of a solver's answer, which need not be right.
 ghost use Rattle.std.specs.Prelude.{◌≡◌, ℕ, ◌+◌, ◌-◌, ◌*◌, ◌<◌, ◌^◌, [], ◌∷◌, ◌++◌, length, map, min, drop, All, IfOk, OnOk};
+ghost use Rattle.hp_num.specs.Sums.{floor_over};
 ghost use Rattle.hp_theory.specs.Problem.{S, node_at};
 ghost use Rattle.hp_theory.specs.Pools.{pool};
 ghost use Rattle.hp_theory.specs.View.{successors_of, problem_of};
@@ -43,13 +44,26 @@ fn clamped(number: i128) -> i64
     number.clamp(i128::from(i64::MIN), i128::from(i64::MAX)) as i64
 }
 
+/// A dual over a divisor, rounded down. The divisor of settled certificates is a number that the compiler knows, so that it takes no
+/// division.
+fn dual_over(dual: i128, divisor: u64) -> i128
+    requires { 0 < divisor }
+    ensures { result ≡ floor_over dual divisor }
+{
+    if divisor == FINER {
+        floor_div(dual, i128::from(FINER))
+    } else {
+        floor_div(dual, i128::from(divisor))
+    }
+}
+
 /// The multiplier of a row: its dual over the divisor, rounded down and clamped, and 0 without the side that it stands
 /// on.
 fn row_over(row: &Row, dual: i128, divisor: u64) -> i64
     requires { 0 < divisor }
     ensures { result ≡ row_multiplier_over divisor row.now dual }
 {
-    let multiplier = clamped(floor_div(dual, i128::from(divisor)));
+    let multiplier = clamped(dual_over(dual, divisor));
     if is_sign(row, multiplier) {
         multiplier
     } else {

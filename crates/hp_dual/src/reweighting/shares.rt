@@ -9,7 +9,7 @@ ghost use Rattle.hp_dual.specs.Shares.{Shares};
 ghost use Rattle.hp_cut_making.specs.Sized.{Sized};
 ghost use Rattle.hp_cut_making.specs.SizeByTerms.{Fixed, certificate_amount};
 
-use crate::size::{FixedAmounts, realization_size, write_rows};
+use crate::size::{FEW_ROWS, FixedAmounts, realization_size, write_rows};
 use hp_cut_making::node_at::NodeAt;
 use hp_cut_making::scales::scale;
 use hp_cut_making::{constant_over, fixed_constant};
@@ -51,6 +51,30 @@ fn share_of(here: &NodeAt, fixed: &FixedAmounts, values: &[i64], certificate: &C
     }
 }
 
+/// The shares of all realizations, by a list with room for the amounts of the rows.
+fn shares_by(
+    alloc: Global,
+    rows: &mut [u128],
+    here: &NodeAt,
+    list: &[Certificate],
+) -> Result<List<Share>, Memory>
+    requires limits { Limited here.now.node.now here.now.subproblem.now }
+    requires sized { Sized here.now.pools.now.lists here.now.node.now here.now.subproblem.now here.now.low.now here.now.weights.now }
+    requires there { All (λ (c : Certificate). PairsThere here.now.pools.now.lists here.now.node.now.successors c.cuts) list.now }
+    requires list { length list.now ≡ length here.now.node.now.values }
+    requires room { length here.now.subproblem.now.rows ≤ length rows.old }
+    ensures { IfOk result (Shares here.now.pools.now.lists here.now.node.now here.now.subproblem.now here.now.low.now here.now.high.now list.now) }
+{
+    let values = here.node.values.as_slice();
+    write_rows(here, rows);
+    let fixed = FixedAmounts::of(here, rows);
+    let mut found = List::new(alloc);
+    for r in 0..list.len() {
+        found.push(share_of(here, &fixed, values[r].as_slice(), &list[r]))?;
+    }
+    Ok(found)
+}
+
 /// The shares of all realizations.
 pub(super) fn all_shares(
     alloc: Global,
@@ -63,13 +87,9 @@ pub(super) fn all_shares(
     requires list { length list.now ≡ length here.now.node.now.values }
     ensures { IfOk result (Shares here.now.pools.now.lists here.now.node.now here.now.subproblem.now here.now.low.now here.now.high.now list.now) }
 {
-    let values = here.node.values.as_slice();
-    let mut rows: [u128; MOST_ROWS] = [0; MOST_ROWS];
-    write_rows(here, &mut rows);
-    let fixed = FixedAmounts::of(here, &rows);
-    let mut found = List::new(alloc);
-    for r in 0..list.len() {
-        found.push(share_of(here, &fixed, values[r].as_slice(), &list[r]))?;
+    if here.subproblem.rows.len() <= FEW_ROWS {
+        shares_by(alloc, &mut [0; FEW_ROWS], here, list)
+    } else {
+        shares_by(alloc, &mut [0; MOST_ROWS], here, list)
     }
-    Ok(found)
 }

@@ -9,6 +9,9 @@ use hp_cut_making::node_at::NodeAt;
 use hp_num::Size;
 use hp_parts::{Decision, Row, Subproblem};
 
+/// The number of rows up to which a shorter list of their amounts is enough, which takes less time to clear.
+pub(crate) const FEW_ROWS: usize = 32;
+
 /// The amounts that are the same at all realizations of a node, each 2^127 where it is more.
 #[derive(Clone, Copy)]
 pub(crate) struct FixedAmounts<'a> {

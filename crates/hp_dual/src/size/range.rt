@@ -1,5 +1,5 @@
 // The size of a list of certificates, and where it passes its range.
-ghost use Rattle.std.specs.Prelude.{◌≡◌, ◌-◌, ◌^◌, ◌<◌, ℕ, ℤ, pos, ◌-ℤ◌, ◌*ℤ◌, ◌≤ℤ◌, List, length, nat_abs, zip, MatchResult};
+ghost use Rattle.std.specs.Prelude.{◌≡◌, ◌-◌, ◌^◌, ◌<◌, ◌≤◌, ℕ, ℤ, pos, ◌-ℤ◌, ◌*ℤ◌, ◌≤ℤ◌, List, length, nat_abs, zip, All, MatchResult};
 ghost use Rattle.std.specs.List.{sum_by};
 ghost use Rattle.hp_num.specs.Sums.{floor_over};
 ghost use Rattle.hp_theory.specs.declared.cut.Certificate.{Certificate};
@@ -11,17 +11,68 @@ ghost use Rattle.hp_cut_making.specs.Parts.{slope_size};
 ghost use Rattle.hp_cut_making.specs.Sized.{Sized, Passes, unboxed, remainders_amount};
 ghost use Rattle.hp_cut_making.specs.SizeByTerms.{AddsSize, weighted_amount};
 ghost use Rattle.hp_cut_making.specs.Tabled.{SumsInRange, Tabled};
+ghost use Rattle.hp_dual.specs.Pairs.{IsPairsAt, IsPairsBefore};
 
-use super::fixed::{FixedAmounts, write_rows};
-use super::stages::realization_size;
+use super::fixed::{FEW_ROWS, FixedAmounts, write_rows};
+use super::stages::{pairs_size, realization_over};
 use super::terms::plus_scaled;
 use crate::magnitudes::absolute;
 use hp_cut_making::node_at::NodeAt;
 use hp_cut_making::scales::divisor;
-use hp_cut_making::slope_sums;
+use hp_cut_making::{are_same_cuts, slope_sums};
 use hp_num::Size;
 use hp_parts::{MOST_ROWS, MOST_STATES};
 use hp_theory::Certificate;
+
+/// The size of the pairs of a realization's certificate. Where those of the one before are the same, their size is taken over.
+fn pairs_at(
+    here: &NodeAt,
+    list: &[Certificate],
+    realization: usize,
+    before: Option<Size>,
+) -> Option<Size>
+    requires known { All (λ m. m < length here.now.pools.now.lists) here.now.node.now.successors }
+    requires inside { realization < length list.now }
+    requires before { IsPairsBefore here.now.node.now here.now.subproblem.now here.now.pools.now.lists list.now realization before }
+    ensures { IsPairsAt here.now.node.now here.now.subproblem.now here.now.pools.now.lists list.now realization result }
+{
+    let certificate = &list[realization];
+    let cuts = certificate.cuts.as_slice();
+    if 0 < realization && are_same_cuts(list[realization - 1].cuts.as_slice(), cuts) {
+        return before;
+    }
+    pairs_size(here, certificate)
+}
+
+/// The sizes of all realizations by their weights, or the first that brings the sum above 2^127 - 1, by a list with room for the
+/// amounts of the rows.
+fn realizations_size_by(
+    rows: &mut [u128],
+    here: &NodeAt,
+    list: &[Certificate],
+) -> Result<Size, usize>
+    requires room { length here.now.subproblem.now.rows ≤ length rows.old }
+    requires sized { Sized here.now.pools.now.lists here.now.node.now here.now.subproblem.now here.now.low.now here.now.weights.now }
+    requires list { length list.now ≡ length here.now.weights.now }
+    ensures { MatchResult result
+        (λ size. size.total ≡ sum_by (weighted_amount here.now.node.now here.now.subproblem.now here.now.low.now here.now.high.now here.now.pools.now.lists) (zip here.now.weights.now (zip here.now.node.now.values list.now)))
+        (Passes (weighted_amount here.now.node.now here.now.subproblem.now here.now.low.now here.now.high.now here.now.pools.now.lists) (zip here.now.weights.now (zip here.now.node.now.values list.now))) }
+{
+    let values = here.node.values.as_slice();
+    write_rows(here, rows);
+    let fixed = FixedAmounts::of(here, rows);
+    let mut size = Size::zero();
+    let mut pairs = Some(size);
+    for r in 0..here.weights.len() {
+        pairs = pairs_at(here, list, r, pairs);
+        let inner = realization_over(pairs, here, &fixed, values[r].as_slice(), &list[r]);
+        let Some(sum) = plus_scaled(size, u128::from(here.weights[r]), inner) else {
+            return Err(r);
+        };
+        size = sum;
+    }
+    Ok(size)
+}
 
 /// The sizes of all realizations by their weights, or the first that brings the sum above 2^127 - 1.
 fn realizations_size(here: &NodeAt, list: &[Certificate]) -> Result<Size, usize>
@@ -31,19 +82,11 @@ fn realizations_size(here: &NodeAt, list: &[Certificate]) -> Result<Size, usize>
         (λ size. size.total ≡ sum_by (weighted_amount here.now.node.now here.now.subproblem.now here.now.low.now here.now.high.now here.now.pools.now.lists) (zip here.now.weights.now (zip here.now.node.now.values list.now)))
         (Passes (weighted_amount here.now.node.now here.now.subproblem.now here.now.low.now here.now.high.now here.now.pools.now.lists) (zip here.now.weights.now (zip here.now.node.now.values list.now))) }
 {
-    let values = here.node.values.as_slice();
-    let mut rows: [u128; MOST_ROWS] = [0; MOST_ROWS];
-    write_rows(here, &mut rows);
-    let fixed = FixedAmounts::of(here, &rows);
-    let mut size = Size::zero();
-    for r in 0..here.weights.len() {
-        let inner = realization_size(here, &fixed, values[r].as_slice(), &list[r]);
-        let Some(sum) = plus_scaled(size, u128::from(here.weights[r]), inner) else {
-            return Err(r);
-        };
-        size = sum;
+    if here.subproblem.rows.len() <= FEW_ROWS {
+        realizations_size_by(&mut [0; FEW_ROWS], here, list)
+    } else {
+        realizations_size_by(&mut [0; MOST_ROWS], here, list)
     }
-    Ok(size)
 }
 
 /// Gives the remainder of a number by a positive divisor.

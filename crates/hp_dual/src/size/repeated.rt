@@ -1,5 +1,5 @@
 // Where the size of a certificate that all realizations of a node have passes the range.
-ghost use Rattle.std.specs.Prelude.{◌≡◌, zip, MatchResult};
+ghost use Rattle.std.specs.Prelude.{◌≡◌, ◌≤◌, length, zip, MatchResult};
 ghost use Rattle.std.specs.List.{sum_by};
 ghost use Rattle.hp_theory.specs.Problem.{with_weights};
 ghost use Rattle.hp_theory.specs.View.{node_of};
@@ -8,7 +8,7 @@ ghost use Rattle.hp_cut_making.specs.Parts.{repeated};
 ghost use Rattle.hp_cut_making.specs.Sized.{Sized, Passes};
 ghost use Rattle.hp_cut_making.specs.SizeByTerms.{weighted_amount};
 
-use super::fixed::{FixedAmounts, write_rows};
+use super::fixed::{FEW_ROWS, FixedAmounts, write_rows};
 use super::range::remainders_range;
 use super::stages::{pairs_size, realization_over};
 use super::terms::plus_scaled;
@@ -18,8 +18,14 @@ use hp_num::Size;
 use hp_parts::MOST_ROWS;
 use hp_theory::Certificate;
 
-/// The sizes of all realizations by their weights, or the first that brings the sum above 2^127 - 1.
-fn realizations_size(here: &NodeAt, certificate: &Certificate) -> Result<Size, usize>
+/// The sizes of all realizations by their weights, or the first that brings the sum above 2^127 - 1, by a list with room for the
+/// amounts of the rows.
+fn realizations_size_by(
+    rows: &mut [u128],
+    here: &NodeAt,
+    certificate: &Certificate,
+) -> Result<Size, usize>
+    requires room { length here.now.subproblem.now.rows ≤ length rows.old }
     requires sized { Sized here.now.pools.now.lists here.now.node.now here.now.subproblem.now here.now.low.now here.now.weights.now }
     ensures { MatchResult result
         (λ size. size.total ≡ sum_by (weighted_amount here.now.node.now here.now.subproblem.now here.now.low.now here.now.high.now here.now.pools.now.lists) (zip here.now.weights.now (zip here.now.node.now.values (repeated certificate.now here.now.weights.now))))
@@ -27,9 +33,8 @@ fn realizations_size(here: &NodeAt, certificate: &Certificate) -> Result<Size, u
 {
     let values = here.node.values.as_slice();
     let pairs = pairs_size(here, certificate);
-    let mut rows: [u128; MOST_ROWS] = [0; MOST_ROWS];
-    write_rows(here, &mut rows);
-    let fixed = FixedAmounts::of(here, &rows);
+    write_rows(here, rows);
+    let fixed = FixedAmounts::of(here, rows);
     let mut size = Size::zero();
     for r in 0..here.weights.len() {
         let inner = realization_over(pairs, here, &fixed, values[r].as_slice(), certificate);
@@ -39,6 +44,20 @@ fn realizations_size(here: &NodeAt, certificate: &Certificate) -> Result<Size, u
         }
     }
     Ok(size)
+}
+
+/// The sizes of all realizations by their weights, or the first that brings the sum above 2^127 - 1.
+fn realizations_size(here: &NodeAt, certificate: &Certificate) -> Result<Size, usize>
+    requires sized { Sized here.now.pools.now.lists here.now.node.now here.now.subproblem.now here.now.low.now here.now.weights.now }
+    ensures { MatchResult result
+        (λ size. size.total ≡ sum_by (weighted_amount here.now.node.now here.now.subproblem.now here.now.low.now here.now.high.now here.now.pools.now.lists) (zip here.now.weights.now (zip here.now.node.now.values (repeated certificate.now here.now.weights.now))))
+        (Passes (weighted_amount here.now.node.now here.now.subproblem.now here.now.low.now here.now.high.now here.now.pools.now.lists) (zip here.now.weights.now (zip here.now.node.now.values (repeated certificate.now here.now.weights.now)))) }
+{
+    if here.subproblem.rows.len() <= FEW_ROWS {
+        realizations_size_by(&mut [0; FEW_ROWS], here, certificate)
+    } else {
+        realizations_size_by(&mut [0; MOST_ROWS], here, certificate)
+    }
 }
 
 /// The realization at which the size of a certificate that all realizations have passes 2^127 - 1, as of a list. Its

@@ -1,9 +1,8 @@
-use Rattle.std.proofs.Common.{◌∙◌}
-use mir.Syntax.{w128}
-use Rattle.std.proofs.lemmas.Int.{to_z-of_z}
-use Rattle.hp_theory.specs.View.{node_of}
+use Rattle.hp_cut_making.proofs.Tables.{zeros}
 use Rattle.hp_cut_making.proofs.sums.constant_sum.Goals as goal
 
-pub weighted_constants-requires-clause-scale : goal.weighted_constants-requires-clause-scale
-unfolding node_of
-weighted_constants-requires-clause-scale c = c.of-costs.ensures.scale ∙ to_z-of_z w128 c.scale.result (record { sfits = c.scale.type_inv }) ∙ c.scale.ensures
+pub constant_sum_by-requires-clause-zeros : goal.constant_sum_by-requires-clause-zeros
+constant_sum_by-requires-clause-zeros c = zeros 32
+
+pub constant_sum_by-requires-else-len-le-FEW_DECISIONS-clause-zeros : goal.constant_sum_by-requires-else-len-le-FEW_DECISIONS-clause-zeros
+constant_sum_by-requires-else-len-le-FEW_DECISIONS-clause-zeros c = zeros 200

@@ -1,24 +1,32 @@
-use Rattle.std.proofs.Common.{◌≡◌, ℕ, ◌<◌, ℤ, pos, ◌*ℤ◌, List, [], length, zip, get_or, to_z, of_z, arith, refl, ap, ap₂, sym, subst, ◌∙◌}
+use Rattle.std.proofs.Common.{◌≡◌, ℕ, ℤ, pos, ◌*ℤ◌, List, [], All, zip, get_or, to_z, of_z, arith, refl, rules, SFits, ap, ap₂, sym, subst, ◌∙◌}
 use mir.Syntax.{w128}
 use Rattle.std.specs.Int.{int_wrap}
 use Rattle.hp_theory.specs.declared.cut.Certificate.{Certificate}
 use Rattle.hp_theory.specs.Problem.{Realization, Node, with_weights}
 use Rattle.hp_theory.specs.View.{node_of}
-use Rattle.hp_theory.specs.CutOf.{scale, alpha_at}
+use Rattle.hp_theory.specs.CutOf.{alpha_at}
+use Rattle.std.proofs.lemmas.Int.{to_z-of_z}
 use Rattle.hp_cut_making.specs.Congruent.{Congruent}
+use Rattle.hp_cut_making.specs.FixedParts.{fixed_at}
 use Rattle.hp_cut_making.specs.Parts.{ReducedFit, constant_at_scale}
 use Rattle.hp_cut_making.proofs.Congruence.{sum_step, sum_all, same_add, same_times, same_read}
 use Rattle.hp_cut_making.proofs.Viewed.{alpha-node_of}
 use Rattle.hp_cut_making.proofs.Weighted.{weighted_inside, weighted_all, weighted_at}
 use Rattle.hp_cut_making.proofs.sums.weighted_constants.Goals as goal
 
-pub constant_of-constant-requires-clause-small : goal.constant_of-constant-requires-clause-small
+pub fixed_at-fixed-requires-clause-small : goal.fixed_at-fixed-requires-clause-small
 unfolding node_of
-constant_of-constant-requires-clause-small c =
-    let r : ℕ = c.loop-r.r in
-    let h : r < length c.args.list.now = omega (arith, c.requires.list, c.requires.count, c.loop-r-test.true) in
-    subst (λ (k : ℤ). ReducedFit k c.args.here.now.pools.now.lists c.args.here.now.node.now c.args.here.now.subproblem.now c.index-list-r.result) (sym c.requires.scale)
-    (subst (ReducedFit (scale (node_of c.args.here.now.node.now c.args.here.now.subproblem.now [] [])) c.args.here.now.pools.now.lists c.args.here.now.node.now c.args.here.now.subproblem.now) (sym c.index-list-r.is) (c.requires.small r c.index-list-r.result h))
+fixed_at-fixed-requires-clause-small c =
+    subst (λ (k : ℤ). All (ReducedFit k c.args.here.now.pools.now.lists c.args.here.now.node.now c.args.here.now.subproblem.now) c.args.list.now) (sym c.requires.scale) c.requires.small
+
+pub constant_over-constant-requires-clause-fixed : goal.constant_over-constant-requires-clause-fixed
+constant_over-constant-requires-clause-fixed c =
+    let h = c.args.here.now in
+    let k : ℤ = c.args.costs.now.scale in
+    let own : Certificate = c.index-list-r.result in
+    let fits : SFits w128 k = search rules in
+    same_read c.fixed_at-fixed.result (record { sfits = c.fixed_at-fixed.type_inv }) ∙ c.fixed_at-fixed.ensures.value own
+    ∙ ap₂ (λ (z : ℤ) (x : Certificate). int_wrap w128 (fixed_at z h.pools.now.lists h.node.now h.subproblem.now x)) (sym (to_z-of_z w128 k fits)) (sym c.index-list-r.is)
 
 pub loop-r-preserved : goal.loop-r-preserved
 unfolding node_of
@@ -31,23 +39,28 @@ loop-r-preserved c =
     let certificate : Certificate = c.index-list-r.result in
     let own : List ℤ = c.index-as_slice-r.result in
     let w : ℕ = get_or c.args.here.now.weights.now r 0 in
+    let fits : SFits w128 c.args.costs.now.scale = search rules in
     let v : List ℤ = get_or c.args.here.now.node.now.values r own in
     let d : Realization × Certificate = (record { weight = 0; values = own }, certificate) in
     let f : Realization × Certificate → ℤ = λ (q : Realization × Certificate). pos q.0.weight *ℤ alpha_at lists n q.0.values q.1 in
     let weight : Congruent (to_z w128 (of_z w128 c.from.result)) (pos w) = same_read c.from.result (record { sfits = c.from.type_inv }) ∙ ap (int_wrap w128) c.from.ensures in
     let values : c.as_slice-values.result.now ≡ v = c.as_slice-values.ensures ∙ c.index-as_slice-r.is ∙ ap (λ (xs : List (List ℤ)). get_or xs r own) c.as_slice.ensures in
-    let constant : Congruent (to_z w128 (of_z w128 c.constant_of-constant.result)) (alpha_at lists n v certificate) =
-    same_read c.constant_of-constant.result (record { sfits = c.constant_of-constant.type_inv }) ∙ c.constant_of-constant.ensures.value
-    ∙ ap₂ (λ (k : ℤ) (xs : List ℤ). int_wrap w128 (constant_at_scale k lists c.args.here.now.node.now c.args.here.now.subproblem.now xs certificate)) c.requires.scale values
+    let constant : Congruent (to_z w128 (of_z w128 c.constant_over-constant.result)) (alpha_at lists n v certificate) =
+    same_read c.constant_over-constant.result (record { sfits = c.constant_over-constant.type_inv }) ∙ c.constant_over-constant.ensures
+    ∙ ap₂ (λ (k : ℤ) (xs : List ℤ). int_wrap w128 (constant_at_scale k lists c.args.here.now.node.now c.args.here.now.subproblem.now xs certificate)) (to_z-of_z w128 c.args.costs.now.scale fits ∙ c.requires.scale) values
     ∙ ap (int_wrap w128) (sym (alpha-node_of c.args.here.now.node.now c.args.here.now.subproblem.now [] [] lists certificate c.requires.limits.successors v)) in
     let here : get_or (zip n.realizations c.args.list.now) r d ≡ (record { weight = w; values = v }, certificate) =
     weighted_at c.args.here.now.weights.now c.args.here.now.node.now.weights c.args.here.now.node.now.values c.args.list.now c.requires.count c.requires.limits.values c.requires.list r d c.loop-r-test.true ∙ ap (λ (k : Certificate). (record { weight = w; values = v }, k)) (sym c.index-list-r.is) in
     record {
-      count = omega (arith, c.constant_of-constant.ensures.count, c.loop-r.invariant.count);
+      count = omega (arith, c.fixed_at-fixed.ensures.count, c.loop-r.invariant.count);
       value = sum_step f (zip n.realizations c.args.list.now) r d s _ (pos w *ℤ alpha_at lists n v certificate)
           (weighted_inside c.args.here.now.weights.now c.args.here.now.node.now.weights c.args.here.now.node.now.values c.args.list.now c.requires.count c.requires.limits.values c.requires.list r c.loop-r-test.true) c.loop-r.invariant.value
           (same_read c.wrapping_add_product-sum.result (record { sfits = c.wrapping_add_product-sum.type_inv }) ∙ c.wrapping_add_product-sum.ensures ∙ same_add s _ s (pos w *ℤ alpha_at lists n v certificate) refl (same_times _ _ (pos w) (alpha_at lists n v certificate) weight constant))
           (ap (λ (q : Realization × Certificate). int_wrap w128 (f q)) (sym here));
+      fixed = λ q next d.
+          let same : r ≡ q = omega (arith, next) in
+          subst (λ (i : ℕ). Congruent (to_z w128 (of_z w128 c.fixed_at-fixed.result)) (fixed_at c.args.costs.now.scale lists c.args.here.now.node.now c.args.here.now.subproblem.now (get_or c.args.list.now i d))) same
+          (same_read c.fixed_at-fixed.result (record { sfits = c.fixed_at-fixed.type_inv }) ∙ c.fixed_at-fixed.ensures.value d);
     }
 
 pub returns : goal.returns

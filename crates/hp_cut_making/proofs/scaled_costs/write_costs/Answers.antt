@@ -5,12 +5,12 @@ use Rattle.std.specs.Int.{int_wrap}
 use Rattle.std.proofs.lemmas.Int.{to_z-of_z}
 use Rattle.hp_num.specs.Sums.{entry}
 use Rattle.hp_parts.specs.declared.parts.Decision.{Decision}
-use Rattle.hp_cut_making.proofs.Tables.{tabled_as, zeros}
-use Rattle.hp_cut_making.proofs.scaled_costs.ScaledCosts.of.Goals as goal
+use Rattle.hp_cut_making.proofs.Tables.{tabled_as}
+use Rattle.hp_cut_making.proofs.scaled_costs.write_costs.Goals as goal
 
 pub returns-clause-costs : goal.returns-clause-costs
 returns-clause-costs c =
     let costs : List ℤ = map (λ (d : Decision). d.cost) c.args.decisions.now in
     tabled_as _ _ c.add_costs.new.sums
     (λ j. ap (int_wrap w128) (ap (λ (z : ℤ). pos 0 +ℤ z *ℤ entry costs j) (to_z-of_z w128 c.args.scale c.ranges.scale) ∙ +ℤ_idl (c.args.scale *ℤ entry costs j)))
-    (c.add_costs.ensures.value (λ j. pos 0) (zeros 200))
+    (c.add_costs.ensures.value (λ j. pos 0) c.requires.zeros)

@@ -6,7 +6,7 @@ use Rattle.hp_cut_making.specs.Parts.{repeated}
 use Rattle.hp_cut_making.specs.SizeByTerms.{AddsSize, certificate_amount, weighted_amount}
 use Rattle.hp_dual.proofs.Amounts.{take_pairs}
 use Rattle.hp_dual.proofs.Realizations.{counted, next}
-use Rattle.hp_dual.proofs.size.repeated.realizations_size.Goals as goal
+use Rattle.hp_dual.proofs.size.repeated.realizations_size_by.Goals as goal
 
 pub returns-in-None : goal.returns-in-None
 returns-in-None c =

@@ -4,7 +4,7 @@ use Rattle.hp_theory.specs.declared.cut.Certificate.{Certificate}
 use Rattle.hp_dual.specs.declared.reweighting.shares.Share.{Share}
 use Rattle.hp_dual.specs.Shares.{IsShare}
 use Rattle.hp_dual.proofs.Sharing.{Each, each_more}
-use Rattle.hp_dual.proofs.reweighting.shares.all_shares.Goals as goal
+use Rattle.hp_dual.proofs.reweighting.shares.shares_by.Goals as goal
 
 pub loop-r-init : goal.loop-r-init
 loop-r-init c =

@@ -1,6 +1,6 @@
 use Rattle.std.proofs.Common.{◌≡◌, length}
 use Rattle.hp_dual.proofs.Sharing.{Each}
-use Rattle.hp_dual.proofs.reweighting.shares.all_shares.Given as goal
+use Rattle.hp_dual.proofs.reweighting.shares.shares_by.Given as goal
 
 abbrev pub invariant-loop-r : goal.invariant-loop-r
 invariant-loop-r l = record {
