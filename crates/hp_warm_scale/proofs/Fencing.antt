@@ -60,7 +60,7 @@ below_most most limits slopes k top (l ∷ lifts) small below are h =
     (below_one most top l.1 (entry slopes l.0) h (entry_small slopes l.0 small) (below_limit limits slopes l.0 (near (most -ℤ l.1)) below (All-head P l lifts are)))
 
 -- ---- at least the least
-rises : (top lift slope : ℤ) → top ≤ℤ greater_digits top lift slope
+pub rises : (top lift slope : ℤ) → top ≤ℤ greater_digits top lift slope
 rises top lift slope = by (int_eq slope (pos 0))
   where
     by : (b : Bool) → top ≤ℤ cond b top (int_max top (lift +ℤ pos (bits_of slope)))

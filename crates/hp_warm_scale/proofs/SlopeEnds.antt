@@ -15,9 +15,9 @@ use Rattle.hp_solver.specs.SlopeEnds.{IsLevel, IsUndercut, IsReached, AreSlopeEn
 use Rattle.hp_solver.specs.declared.packed.SlopeEnds.{SlopeEnds}
 use Rattle.hp_warm_table.specs.Numbers.{bits_of}
 use Rattle.hp_warm_scale.specs.declared.spans.Span.{Span}
-use Rattle.hp_warm_scale.specs.Spans.{grown, AreBetween}
+use Rattle.hp_warm_scale.specs.Spans.{grown}
 use Rattle.hp_warm_scale.specs.Packed.{greater_digits, most_digits, grown_above_zero}
-use Rattle.hp_warm_scale.proofs.Between.{grown_between}
+use Rattle.hp_warm_scale.proofs.Fencing.{rises}
 use Rattle.hp_warm_scale.proofs.Digits.{few_digits}
 use Rattle.hp_warm_scale.proofs.Standing.{small_slope, entry_small, greatest_from, steps}
 
@@ -102,13 +102,6 @@ stays_within s t x h g = by (int_eq x (pos 0)) refl
     by true e = h
     by false e = ⊎_elim (λ (z : x ≡ pos 0). absurd (grind (arith, ints, nat_tests, z))) (λ (i : IsIn t x). grown_within s t x h i) g
 
-pub above_between : (s : Option Span) (x : ℤ) → pos 0 ≤ℤ x → x ≤ℤ pos 640 → AreBetween (pos 0) (pos 640) s → AreBetween (pos 0) (pos 640) (grown_above_zero s x)
-above_between s x h k b = by (int_eq x (pos 0))
-  where
-    by : (t : Bool) → AreBetween (pos 0) (pos 640) (cond t s (grown s x))
-    by true = b
-    by false = grown_between (pos 0) (pos 640) s x h k b
-
 -- ---- with many
 -- the span with the numbers of some items
 abbrev pub with_all : {A : Type 0} → (A → ℤ) → ℕ → Option Span → List A → Option Span
@@ -134,13 +127,6 @@ below_own y h =
     let e : bits_of y ≡ t.0 = omega (arith, t.1) in
     subst (λ (n : ℕ). nat_abs y < 2 ^ n) (sym e) t.2
 
-at_least : (m lift y : ℤ) → m ≤ℤ greater_digits m lift y
-at_least m lift y = by (int_eq y (pos 0))
-  where
-    by : (b : Bool) → m ≤ℤ cond b m (int_max m (lift +ℤ pos (bits_of y)))
-    by true = omega (arith, ints)
-    by false = omega (arith, ints, clamps)
-
 reaches : (m lift y : ℤ) → 0 < nat_abs y → (lift +ℤ pos (bits_of y)) ≤ℤ greater_digits m lift y
 reaches m lift y h = by (int_eq y (pos 0)) refl
   where
@@ -152,12 +138,12 @@ one_no_more : (m n lift x y : ℤ) → nat_abs y < 2 ^ 57 → ((i : ℕ) → nat
 one_no_more m n lift x y small h l = by (int_eq x (pos 0)) refl
   where
     by : (b : Bool) → int_eq x (pos 0) ≡ b → cond b m (int_max m (lift +ℤ pos (bits_of x))) ≤ℤ greater_digits n lift y
-    by true e = (let a = at_least n lift y in omega (arith, ints, l, a))
+    by true e = (let a = rises n lift y in omega (arith, ints, l, a))
     by false e =
         let p : 0 < nat_abs x = grind (arith, ints, nat_tests) in
         let q : 0 < nat_abs y = ⊎_elim (λ (z : nat_abs y < 2 ^ 0). let w = h 0 z in absurd (omega (arith, p, w))) (λ (z : 2 ^ 0 ≤ nat_abs y). omega (arith, z)) (cases_lt (nat_abs y) (2 ^ 0)) in
         let few : bits_of x ≤ bits_of y = few_digits x (bits_of y) (omega arith) (h (bits_of y) (below_own y small)) in
-        let a = at_least n lift y in
+        let a = rises n lift y in
         let b = reaches n lift y q in
         omega (arith, ints, clamps, few, a, b, l)
 
@@ -185,7 +171,7 @@ had_step cuts gs m f u r h = by (int_eq (entry gs u.0) (pos 0)) refl
 
     kept : (y : ℤ) → y ≤ℤ m → IsHad cuts m f → (y ≡ m) → IsHad cuts y next
     kept y l (inl z) e = inl (e ∙ z)
-    kept y l (inr w) e = inr (w.0, w.1, (let a = at_least (f w.0) u.1 (entry (packed_cut_at cuts w.0).slopes u.0) in let b = w.2 in omega (arith, ints, a, b, l)))
+    kept y l (inr w) e = inr (w.0, w.1, (let a = rises (f w.0) u.1 (entry (packed_cut_at cuts w.0).slopes u.0) in let b = w.2 in omega (arith, ints, a, b, l)))
 
     own : (y : ℤ) → y ≤ℤ (u.1 +ℤ pos (bits_of (entry gs u.0))) → 0 < nat_abs (entry gs u.0) → (entry gs u.0 ≡ pos 0) ⊎ IsReached cuts u.0 (nat_abs (entry gs u.0)) → IsHad cuts y next
     own y l p (inl z) = absurd (let a = ap nat_abs z in omega (arith, a, p))

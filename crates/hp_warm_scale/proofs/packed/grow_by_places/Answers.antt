@@ -4,7 +4,8 @@ use Rattle.std.proofs.lemmas.List.Elements.{All-more}
 use mir.Syntax.{w32}
 use Rattle.hp_warm_scale.specs.Spans.{AreBetween}
 use Rattle.hp_warm_scale.specs.Packed.{most_digits, grown_above_zero}
-use Rattle.hp_warm_scale.proofs.SlopeEnds.{above_between, top_at}
+use Rattle.hp_warm_scale.proofs.SlopeEnds.{top_at}
+use Rattle.hp_warm_scale.proofs.Standing.{above_between}
 use Rattle.hp_warm_scale.proofs.Walking.{walk_more}
 use Rattle.hp_warm_scale.proofs.packed.grow_by_places.Goals as goal
 
