@@ -1,9 +1,9 @@
 -- Cuts that cover others.
-use Rattle.std.proofs.Common.{◌≡◌, ◌∙◌, ℕ, zero, suc, ◌+◌, ◌<◌, ◌≤◌, ℤ, List, [], ◌∷◌, ◌++◌, length, map, get_or, All, IfSome, ◌⊎◌, inl, inr, add-one, refl, ap, ap₂, sym, subst, arith}
+use Rattle.std.proofs.Common.{◌≡◌, ◌∙◌, ℕ, zero, suc, ◌+◌, ◌<◌, ◌≤◌, ℤ, List, [], ◌∷◌, ◌++◌, length, map, take, get_or, All, IfSome, ◌⊎◌, inl, inr, add-one, refl, ap, ap₂, sym, subst, arith}
 use Rattle.std.proofs.Math.ListN.{get_or-append}
 use Rattle.std.proofs.lemmas.List.{get_or_default}
 use Rattle.std.proofs.Math.Seq.{get_or-append_seam}
-use Rattle.std.proofs.lemmas.List.{length-append}
+use Rattle.std.proofs.lemmas.List.{length-append, length-take-le}
 use Rattle.std.proofs.lemmas.Int.{ints}
 use Rattle.hp_solver.specs.PackedCut.{PackedCut, no_packed_cut}
 use Rattle.hp_solver.specs.Covering.{value_of, packed_cut_at, IsBefore, Covers, IsCovered, AreRisingPlaces, CoverAll}
@@ -292,3 +292,30 @@ places_taken all p qs old mid new before cover lows highs marked count taken = r
     cover = rw (taken.marked, taken.marked_count, taken.lows, taken.highs, lows, highs, marked, count) before.mark.cover;
   };
 }
+
+-- the place of a list's front
+front_at : (k j : ℕ) (ps : List ℕ) → j < k → k ≤ length ps → get_or (take k ps) j 0 ≡ get_or ps j 0
+front_at zero j ps h l = absurd (omega (arith, h))
+front_at (suc k) j [] h l = absurd (omega (arith, l))
+front_at (suc k) zero (p ∷ ps) h l = refl
+front_at (suc k) (suc j) (p ∷ ps) h l = front_at k j ps (omega (arith, h)) (omega (arith, l))
+
+-- a place is below those behind it, and below where they end
+below_next : (least count k p : ℕ) (ps : List ℕ) → AreRisingPlaces least count ps → p < least → p < count → p < get_or ps k count
+below_next least count k p [] r h e = e
+below_next least count zero p (q ∷ ps) r h e = omega (arith, r.0, h)
+below_next least count (suc k) p (q ∷ ps) r h e = below_next (suc q) count k p ps r.2 (omega (arith, r.0, h)) e
+
+-- the front of rising places
+pub rising_front : (least count k : ℕ) (ps : List ℕ) → AreRisingPlaces least count ps → k ≤ length ps → AreRisingPlaces least (get_or ps k count) (take k ps)
+rising_front least count zero ps r l = tt
+rising_front least count (suc k) [] r l = absurd (omega (arith, l))
+rising_front least count (suc k) (p ∷ ps) r l = (r.0, below_next (suc p) count k p ps r.2 (omega arith) r.1, rising_front (suc p) count k ps r.2 (omega (arith, l)))
+
+-- the first places are left where they stay
+pub left_front : (all : List PackedCut) (lows highs : List ℤ) (ps : List ℕ) (p k : ℕ) → k ≤ length ps → (j : ℕ) → j < k → IsLeft all lows highs p (take k ps) (get_or ps j 0)
+left_front all lows highs ps p k l = λ j h. inl (record {
+  by = j;
+  there = omega (arith, h, length-take-le k ps l);
+  covers = subst (λ (i : ℕ). Covers all lows highs i (get_or ps j 0)) (sym (front_at k j ps h l)) (covers_refl all lows highs (get_or ps j 0));
+})

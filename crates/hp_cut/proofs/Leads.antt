@@ -1,5 +1,5 @@
 -- By how much one cut is the greater at least, over a box.
-use Rattle.std.proofs.Common.{◌≡◌, ◌∙◌, ℕ, ◌^◌, ℤ, pos, negsuc, ◌+ℤ◌, ◌-ℤ◌, ◌*ℤ◌, ◌≤ℤ◌, ◌<ℤ◌, List, [], ◌∷◌, length, true, inl, ap, ap₂, sym, subst, arith}
+use Rattle.std.proofs.Common.{◌≡◌, ◌∙◌, ℕ, ◌^◌, ℤ, pos, negsuc, ◌+ℤ◌, ◌-ℤ◌, ◌*ℤ◌, ◌≤ℤ◌, ◌<ℤ◌, List, [], ◌∷◌, length, true, ◌<◌, inl, inr, ap, ap₂, sym, subst, arith}
 use Rattle.std.specs.Int.{int_min}
 use Rattle.std.proofs.lemmas.Int.{ints}
 use Rattle.hp_num.specs.Sums.{sum_to, entry, dot}
@@ -8,7 +8,7 @@ use Rattle.hp_num.proofs.Order.{le_refl, le_add, le_trans, le_of_eq, box_least_i
 use Rattle.hp_num.proofs.Sums.{sum_add, sum_times, sum_le, dot_sum}
 use Rattle.hp_solver.specs.PackedCut.{PackedCut}
 use Rattle.hp_solver.specs.Covering.{value_of, packed_cut_at, AreInside, Covers}
-use lib.Signed.{lt_z}
+use lib.Signed.{lt_z, le_z}
 use Rattle.hp_cut.specs.Active.{lesser_over, IsLead}
 
 -- one state
@@ -63,3 +63,9 @@ pub leads : (all : List PackedCut) (lows highs : List ℤ) (i j : ℕ) (v w : �
 leads all lows highs i j v w e h lead = λ xs inside.
     let more : pos 0 <ℤ v = omega (arith, ints, rw e at h) in
     inl (more_than v (value_of (packed_cut_at all i) xs) (value_of (packed_cut_at all j) xs) more (lead xs inside))
+
+-- a lead of nothing at least, before the other
+pub leads_before : (all : List PackedCut) (lows highs : List ℤ) (i j : ℕ) (v w : ℤ) → w ≡ v → le_z (pos 0) w ≡ true → i < j → IsLead lows highs (packed_cut_at all i) (packed_cut_at all j) v → Covers all lows highs i j
+leads_before all lows highs i j v w e h before lead = λ xs inside.
+    let least : pos 0 ≤ℤ v = omega (arith, ints, rw e at h) in
+    inr (at_least v (value_of (packed_cut_at all i) xs) (value_of (packed_cut_at all j) xs) least (lead xs inside), omega (arith, before))

@@ -1,11 +1,13 @@
 -- Cuts that cover the first cuts of a list.
-use Rattle.std.specs.Prelude.{◌≡◌, ℕ, ◌<◌, ◌≤◌, ◌^◌, ℤ, pos, ◌+ℤ◌, ◌-ℤ◌, ◌*ℤ◌, ◌≤ℤ◌, List, length, map, ◌⊎◌, IfSome}
+use Rattle.std.specs.Prelude.{◌≡◌, ℕ, ◌<◌, ◌≤◌, ◌^◌, ℤ, pos, ◌+ℤ◌, ◌-ℤ◌, ◌*ℤ◌, ◌≤ℤ◌, List, length, map, ⊤, ◌⊎◌, IfSome}
 use Rattle.std.specs.Int.{int_min}
 use Rattle.hp_num.specs.Sums.{entry}
 use Rattle.hp_solver.specs.PackedCut.{PackedCut}
 use Rattle.hp_solver.specs.Covering.{value_of, packed_cut_at, AreInside, Covers, IsCovered, AreRisingPlaces, CoverAll}
 use Rattle.hp_cut.specs.CoarseLists.{IsCoarseOf}
 use Rattle.hp_cut.specs.declared.active_cuts.Active.{Active}
+use Rattle.hp_cut.specs.declared.active_cuts.Standing.{Standing}
+use Rattle.hp_cut.specs.declared.active_cuts.Standing.TheVariants.{Covered, Above, Apart}
 
 -- the lesser product of a difference of slopes with an end of the box of the state k
 abbrev pub lesser_over : List ℤ → List ℤ → List ℤ → List ℤ → ℕ → ℤ
@@ -23,6 +25,12 @@ pub record CoverFirst (all : List PackedCut) (count : ℕ) (places : List ℕ) (
 -- the cut at the place q is covered by one of these or by the one at p
 abbrev pub IsLeft : List PackedCut → List ℤ → List ℤ → ℕ → List ℕ → ℕ → Type 0
 IsLeft all lows highs p places q = IsCovered all lows highs places q ⊎ Covers all lows highs p q
+
+-- one of these covers the cut at the place p, or it is above one of them, or nothing is known
+abbrev pub IsStanding : List PackedCut → List ℤ → List ℤ → List ℕ → ℕ → Standing → Type 0
+IsStanding all lows highs places p Covered = IsCovered all lows highs places p
+IsStanding all lows highs places p (Above k) = k < length places
+IsStanding all lows highs places p Apart = ⊤
 
 -- at the mark there were so many cuts at most, and the places of the mark cover the first of a list
 pub record AreMarkedFirst (all : List PackedCut) (count : ℕ) (a : Active) : Type 0 where

@@ -1,12 +1,12 @@
 // The cuts of a node that cover the others over a box of states.
-ghost use Rattle.std.specs.Prelude.{◌≡◌, ◌<◌, ◌+◌, ◌∷◌, ◌++◌, [], ℕ, ◌+ℤ◌, ◌-ℤ◌, ◌*ℤ◌, List, length, map, take, get_or, true, All, IfOk, IfSome, OnOk};
+ghost use Rattle.std.specs.Prelude.{◌≡◌, ◌<◌, ◌≤◌, ◌+◌, ◌∷◌, ◌++◌, [], ℕ, ◌+ℤ◌, ◌-ℤ◌, ◌*ℤ◌, List, length, map, take, get_or, true, All, IfOk, IfSome, OnOk};
 ghost use Rattle.std.specs.Int.{int_min};
 ghost use Rattle.hp_num.specs.Sums.{sum_to};
 ghost use Rattle.hp_solver.specs.PackedCut.{PackedCut};
 ghost use Rattle.hp_solver.specs.Covering.{packed_cut_at, AreRisingPlaces, IsCovered, Covers, AreActive};
 ghost use Rattle.hp_solver.specs.Coarse.{IsCoarse};
 ghost use Rattle.hp_cut.specs.CoarseLists.{IsCoarseFront, IsCoarseOf};
-ghost use Rattle.hp_cut.specs.Active.{lesser_over, IsLead, IsLeft, AreFirst, IsActive, IsMarked, AreTaken};
+ghost use Rattle.hp_cut.specs.Active.{lesser_over, IsLead, IsLeft, IsStanding, AreFirst, IsActive, IsMarked, AreTaken};
 
 use crate::box_maxima::{OutBox, sum};
 use crate::coarse::Coarse;
@@ -32,7 +32,8 @@ pub(crate) struct Active {
     corners: Vec<Corners>,
     /// The cuts at the places once more, side by side.
     copies: Copies,
-    /// The same cuts in fewer binary digits, where all fall with each state, all numbers fit, and memory was there.
+    /// The same cuts in fewer binary digits. None where a slope is above 0, where a number does not fit, and where memory was
+    /// refused.
     coarse: Option<Coarse>,
     /// The number of cuts at the mark, 0 where there is none.
     marked_count: u32,
@@ -48,41 +49,55 @@ struct Corners {
     greatest: i128,
 }
 
-/// The cuts of a list that are compared over a box: the list, the ends of the box, and the values at its corners of the cuts that
-/// were taken in.
+/// A cut of a list that is compared with those before it over a box: the list, the ends of the box, the values at its corners of
+/// the cuts that were taken in, and those of the cut itself.
 #[derive(Drop)]
 struct Compared<'a> {
     cuts: &'a CutList<'a>,
     lows: &'a [i64],
     highs: &'a [i64],
     corners: &'a [Corners],
+    own: Corners,
 }
 
-/// Keeps the values of the cut at a place too. [`Memory`] where memory was refused.
+/// How a cut stands to the covering ones before it.
+enum Standing {
+    /// One of them covers it.
+    Covered,
+    /// It is everywhere above the one with this number, and was not found to be above one before it.
+    Above(usize),
+    /// Neither is known.
+    Apart,
+}
+
+/// Keeps the values of the cut at a place too, and gives them. [`Memory`] where memory was refused.
 fn push_corners(
     corners: &mut Vec<Corners>,
     lows: &[i64],
     highs: &[i64],
     cuts: &CutList,
     place: u32,
-) -> Result<(), Memory>
+) -> Result<Corners, Memory>
     requires { place < length cuts.now }
 {
     let height = cuts.height(place as usize);
     let slopes = cuts.slopes(place as usize);
-    corners.push(Corners {
+    let own = Corners {
         least: wrapped_value(height, slopes, lows),
         greatest: wrapped_value(height, slopes, highs),
-    })?;
-    Ok(())
+    };
+    corners.push(own)?;
+    Ok(own)
 }
 
 /// Tells whether the first of two cuts is the lesser at one of the corners.
-fn is_lesser(corners: &[Corners], first: u32, second: u32) -> bool {
-    match (corners.get(first as usize), corners.get(second as usize)) {
-        (Some(a), Some(b)) => a.least < b.least || a.greatest < b.greatest,
-        _ => false,
-    }
+fn is_lesser(first: Corners, second: Corners) -> bool {
+    (first.least < second.least) | (first.greatest < second.greatest)
+}
+
+/// Tells whether each of two cuts is the lesser at one of the corners, so that neither covers the other.
+fn is_apart(first: Corners, second: Corners) -> bool {
+    is_lesser(first, second) & is_lesser(second, first)
 }
 
 /// Finds the lesser product of a difference of slopes with an end of a box, none where the difference leaves i64.
@@ -137,13 +152,21 @@ fn lead(lows: &[i64], highs: &[i64], cuts: &CutList, first: u32, second: u32) ->
     sum_over(lows, highs, height, slopes, others)
 }
 
-/// Tells whether the first of two cuts is nowhere the lesser over a box.
+/// Finds the values of the cut at a place. Where they are not there, those of the cut that is compared, which tell nothing.
+fn corners_at(all: &Compared, place: u32) -> Corners {
+    match all.corners.get(place as usize) {
+        Some(corners) => *corners,
+        None => all.own,
+    }
+}
+
+/// Tells whether the cut at a place before the one that is compared is nowhere the lesser over a box.
 fn is_over(all: &Compared, first: u32, second: u32) -> bool
     requires there { second < length all.now.cuts.now }
     requires before { first < second }
     ensures { result ≡ true → Covers all.now.cuts.now all.now.lows.now all.now.highs.now first second }
 {
-    if is_lesser(all.corners, first, second) {
+    if is_lesser(corners_at(all, first), all.own) {
         return false;
     }
     match lead(all.lows, all.highs, all.cuts, first, second) {
@@ -152,13 +175,13 @@ fn is_over(all: &Compared, first: u32, second: u32) -> bool
     }
 }
 
-/// Tells whether the first of two cuts is everywhere the greater over a box.
+/// Tells whether the cut that is compared is everywhere the greater than another over a box.
 fn is_above(all: &Compared, first: u32, second: u32) -> bool
     requires first { first < length all.now.cuts.now }
     requires second { second < length all.now.cuts.now }
     ensures { result ≡ true → Covers all.now.cuts.now all.now.lows.now all.now.highs.now first second }
 {
-    if is_lesser(all.corners, first, second) {
+    if is_lesser(all.own, corners_at(all, second)) {
         return false;
     }
     match lead(all.lows, all.highs, all.cuts, first, second) {
@@ -167,43 +190,61 @@ fn is_above(all: &Compared, first: u32, second: u32) -> bool
     }
 }
 
-/// Tells whether one of the cuts covers the one at a place behind them.
-fn are_over(all: &Compared, places: &[u32], place: u32) -> bool
+/// Finds the first number from one on of a place whose cut may cover the one that is compared, or be covered by it, as its values
+/// at corners tell. Where there is none, the number of places.
+fn next_near(all: &Compared, places: &[u32], from: usize) -> usize
+    requires { from ≤ length places.now }
+    ensures there { result ≤ length places.now }
+    ensures behind { from ≤ result }
+{
+    for k in from..places.len() {
+        let Some(corners) = all.corners.get(places[k] as usize) else {
+            return k;
+        };
+        if !is_apart(all.own, *corners) {
+            return k;
+        }
+    }
+    places.len()
+}
+
+/// Finds how the cut at a place stands to the covering ones before it, in one walk over these. The walk stops at the first one
+/// that the cut is above: none of them covers it then.
+fn standing_of(all: &Compared, places: &[u32], place: u32) -> Standing
     requires there { place < length all.now.cuts.now }
     requires rising { AreRisingPlaces 0 place places.now }
-    ensures { result ≡ true → IsCovered all.now.cuts.now all.now.lows.now all.now.highs.now places.now place }
+    ensures { IsStanding all.now.cuts.now all.now.lows.now all.now.highs.now places.now place result }
 {
-    for k in 0..places.len() {
+    let mut k = next_near(all, places, 0);
+    while k < places.len() {
         if is_over(all, places[k], place) {
-            return true;
+            return Standing::Covered;
         }
-    }
-    false
-}
-
-/// Tells whether the cut at a place behind others is everywhere above one of them. The answer only saves time: with a new place
-/// behind them all cuts stay covered.
-fn is_above_one(all: &Compared, places: &[u32], place: u32) -> bool
-    requires there { place < length all.now.cuts.now }
-    requires rising { AreRisingPlaces 0 place places.now }
-{
-    for k in 0..places.len() {
         if is_above(all, place, places[k]) {
-            return true;
+            return Standing::Above(k);
         }
+        k = next_near(all, places, k + 1);
     }
-    false
+    Standing::Apart
 }
 
-/// Puts those into the room that the cut at a place behind them is not everywhere above. [`Memory`] where memory was refused.
-fn keep_rest(all: &Compared, places: &[u32], place: u32, room: &mut Vec<u32>) -> Result<(), Memory>
+/// Puts those into the room that the cut at a place behind them is not everywhere above. The first ones stay, as many as the count
+/// says. [`Memory`] where memory was refused.
+fn keep_rest(
+    all: &Compared,
+    places: &[u32],
+    place: u32,
+    kept: usize,
+    room: &mut Vec<u32>,
+) -> Result<(), Memory>
     requires there { place < length all.now.cuts.now }
     requires rising { AreRisingPlaces 0 place places.now }
+    requires kept { kept ≤ length places.now }
     ensures rising { OnOk result (AreRisingPlaces 0 place room.new.items) }
     ensures left { OnOk result ((k : ℕ) → k < length places.now → IsLeft all.now.cuts.now all.now.lows.now all.now.highs.now place room.new.items (get_or places.now k 0)) }
 {
-    room.clear();
-    for k in 0..places.len() {
+    copy_places(&places[..kept], room)?;
+    for k in kept..places.len() {
         let other = places[k];
         if !is_above(all, place, other) {
             room.push(other)?;
@@ -330,21 +371,21 @@ impl Active {
     {
         let lows = self.lows.as_slice();
         let highs = self.highs.as_slice();
-        push_corners(&mut self.corners, lows, highs, cuts, place)?;
-        let corners = self.corners.as_slice();
+        let own = push_corners(&mut self.corners, lows, highs, cuts, place)?;
         let all = Compared {
             cuts: &*cuts,
             lows,
             highs,
-            corners,
+            corners: self.corners.as_slice(),
+            own,
         };
-        if are_over(&all, self.places.as_slice(), place) {
-            return Ok(());
-        }
-        if !is_above_one(&all, self.places.as_slice(), place) {
-            return self.push_place(cuts, place);
-        }
-        keep_rest(&all, self.places.as_slice(), place, &mut self.room)?;
+        let places = self.places.as_slice();
+        let kept = match standing_of(&all, places, place) {
+            Standing::Covered => return Ok(()),
+            Standing::Above(k) => k,
+            Standing::Apart => return self.push_place(cuts, place),
+        };
+        keep_rest(&all, places, place, kept, &mut self.room)?;
         self.room.push(place)?;
         self.take_room(cuts)
     }

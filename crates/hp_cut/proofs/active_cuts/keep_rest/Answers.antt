@@ -1,5 +1,5 @@
 use Rattle.std.proofs.Common.{◌≡◌, ◌∙◌, ◌∷◌, ◌++◌, [], ℕ, Vec, Global, get_or, ap, refl, arith}
-use Rattle.hp_cut.proofs.Covered.{place_below, rising_kept, rising_dropped, left_kept, left_dropped}
+use Rattle.hp_cut.proofs.Covered.{place_below, rising_kept, rising_dropped, rising_front, left_kept, left_dropped, left_front}
 use Rattle.hp_cut.proofs.active_cuts.keep_rest.Goals.{then-not-is_above+in_ok-push, else-not-is_above}
 use Rattle.hp_cut.proofs.active_cuts.keep_rest.Goals as goal
 
@@ -21,3 +21,9 @@ loop-k-preserved c = elim c.if-not-is_above.branch [
         left = left_dropped c.args.all.now.cuts.now c.args.all.now.lows.now c.args.all.now.highs.now c.args.places.now c.loop-k.room.items c.args.place c.loop-k.k (c.is_above.ensures w.if-not-is_above.false) c.loop-k.invariant.left;
       })
 ]
+
+pub loop-k-init : goal.loop-k-init
+loop-k-init c = rw c.in_ok-copy_places.ensures (record {
+  rising = rising_front 0 c.args.place c.args.kept c.args.places.now c.requires.rising c.requires.kept;
+  left = left_front c.args.all.now.cuts.now c.args.all.now.lows.now c.args.all.now.highs.now c.args.places.now c.args.place c.args.kept c.requires.kept;
+})
