@@ -1,18 +1,13 @@
 -- When a list of certificates is accepted, and else the first fault.
 use Rattle.std.specs.Prelude.{◌≡◌, ℕ, zero, suc, ◌+◌, ◌*◌, ℤ, pos, negsuc, Bool, true, ◌&&◌, ◌==◌, List, [], ◌∷◌, length, min, zip, nat_le, nat_lt, Option, Some, None, Result, Ok, Err, is_some, if◌then◌else◌}
 use Rattle.std.specs.Option.{option_map}
-use Rattle.hp_parts.specs.declared.parts.Node as nodes
 use Rattle.hp_parts.specs.declared.parts.Row.{Row}
-use Rattle.hp_parts.specs.declared.parts.Subproblem.{Subproblem}
 use Rattle.hp_theory.specs.declared.cut.Cut.{Cut}
 use Rattle.hp_theory.specs.declared.cut.Certificate.{Certificate}
 use Rattle.hp_theory.specs.Problem.{S, Successor, Node}
-use Rattle.hp_theory.specs.CutOf.{beta_sum}
 use Rattle.hp_theory.specs.Pools.{pool}
 use Rattle.hp_theory.specs.Certificates.{multipliers}
 use Rattle.hp_theory.specs.Range.{range_of}
-use Rattle.hp_cut_making.specs.Sized.{unboxed}
-use Rattle.hp_cut_making.specs.Tabled.{Tabled}
 use Rattle.hp_cut_making.specs.declared.fault.CertFault.{CertFault}
 use Rattle.hp_cut_making.specs.declared.fault.CertFault.TheVariants.{Shape, Sign, Cutless, Sum, Range}
 
@@ -85,8 +80,3 @@ fault_of pools n list = or_then_fault (shape_fault n list) (or_then_fault (certi
 abbrev pub Accepts : Result (Unit {0}) CertFault → Option CertFault → Type 0
 Accepts (Ok u) fault = fault ≡ None
 Accepts (Err f) fault = fault ≡ Some f
-
--- a table of B for each state where the size stays in range, else the fault
-abbrev pub SumsAccepted : List ℕ → nodes.Node → Subproblem → List Certificate → Option CertFault → Result (List ℤ) CertFault → Type 0
-SumsAccepted weights n s list fault (Ok sums) = (fault ≡ None) × (length sums ≡ 50) × Tabled (beta_sum (unboxed weights n s) list) sums
-SumsAccepted weights n s list fault (Err f) = fault ≡ Some f

@@ -1,4 +1,4 @@
-// Whether certificates are the same, by their numbers.
+// Tell whether certificates are the same, by their numbers.
 ghost use Rattle.std.specs.Prelude.{◌≡◌, true};
 
 use hp_num::List;

@@ -161,8 +161,17 @@ module _ (pools : List (List Cut)) (n : Node) (list : List Certificate) (e : fau
   pub right-fault_of : Right pools n list
   right-fault_of = right-walk pools n list none-shape.0 none-tail.0
 
+  pub range-fault_of : range_of pools n list ≡ None
+  range-fault_of = none-option_map (range_of pools n list) none-tail.1
+
   pub size-fault_of : size_of pools n list ≤ℤ pos (2 ^ 127 - 1)
-  size-fault_of = within-range_of pools n list (none-option_map (range_of pools n list) none-tail.1)
+  size-fault_of = within-range_of pools n list range-fault_of
+
+-- a list without a fault before its size is right
+pub right-right_fault : (pools : List (List Cut)) (n : Node) (list : List Certificate) → right_fault pools n list ≡ None → Right pools n list
+right-right_fault pools n list e =
+    let q = none-or_then_fault (shape_fault n list) (certificates_fault pools n 0 list) e in
+    right-walk pools n list q.0 q.1
 
 -- the first fault: that before the size, or the size's
 or_then_fault-or_then_fault : (a b c : Option CertFault) → or_then_fault a (or_then_fault b c) ≡ or_then_fault (or_then_fault a b) c

@@ -1,13 +1,12 @@
 -- The base certificates of a node: the certificate of its parts, and the cut that they make.
 use Rattle.std.proofs.Common.{◌≡◌, ℕ, ◌*◌, ◌<◌, ℤ, pos, List, [], ◌∷◌, length, map, None, refl, sym, ap, ◌∙◌, arith}
-use Rattle.std.specs.Option.{option_map}
 use Rattle.hp_parts.specs.declared.parts.Row.{Row}
 use Rattle.hp_parts.specs.declared.parts.Node as nodes
 use Rattle.hp_parts.specs.declared.parts.Subproblem.{Subproblem}
 use Rattle.hp_problem.specs.Validated.{Validated}
 use Rattle.hp_theory.specs.declared.cut.Cut.{Cut}
 use Rattle.hp_theory.specs.declared.cut.Certificate.{Certificate}
-use Rattle.hp_theory.specs.Problem.{S, Realization, Successor, Node, node_at, with_weights}
+use Rattle.hp_theory.specs.Problem.{S, Realization, Successor, node_at, with_weights}
 use Rattle.hp_theory.specs.View.{node_of, successors_of, realizations_of, problem_of}
 use Rattle.hp_theory.specs.Certificates.{Right}
 use Rattle.hp_theory.specs.CutOf.{cut_of}
@@ -16,14 +15,11 @@ use Rattle.hp_theory.specs.Base.{base_list}
 use Rattle.hp_theory.specs.Fit.{FitFor}
 use Rattle.hp_theory.proofs.ValidatedPremises.{leads-validated}
 use Rattle.hp_theory.proofs.SoundBase.{base_right}
-use Rattle.hp_cut_making.specs.declared.fault.CertFault.TheVariants.{Range}
-use Rattle.hp_cut_making.specs.Acceptance.{fault_of}
 use Rattle.hp_dual.specs.Bases.{certificate_of}
 use Rattle.hp_cut_making.specs.Parts.{Cuttable, repeated}
-use Rattle.hp_dual.proofs.Faultless.{right-range_fault}
 use Rattle.hp_cut_making.proofs.GivenNode.{length-realizations}
 use Rattle.hp_cut_making.specs.NodeParts.{NodeParts}
-use Rattle.hp_dual.proofs.AcceptedCuts.{cuttable_none}
+use Rattle.hp_dual.proofs.AcceptedCuts.{cuttable_in_range}
 use Rattle.hp_cut_making.proofs.OwnWeights.{OwnWeights}
 use Rattle.hp_cut_making.proofs.PartsOfNode.{own_weighted}
 
@@ -72,7 +68,5 @@ module _ (p : Validated) (m : ℕ) (pools qs : List (List Cut)) (ws vs : List �
   -- where their size is in range they make a cut
   pub cuttable_same : range_of qs (with_weights vs (node_of n s low high)) (repeated c vs) ≡ None → Cuttable qs n s low vs (repeated c vs)
   cuttable_same none =
-      let k : Node = node_at (problem_of p) m in
-      let accepted : fault_of pools k (base_list k) ≡ None = right-range_fault pools k (base_list k) right_based ∙ ap (option_map Range) (sym range_same ∙ none) in
-      let given : fault_of qs (with_weights vs (node_of n s low high)) (repeated c vs) ≡ None = (λ i. fault_of (same i) (node_based i) (list_based i)) ∙ accepted in
-      cuttable_none n s low high vs qs (repeated c vs) (with_weights vs (node_of n s low high)) refl parts.limits parts.sized parts.costs given
+      let right : Right qs (with_weights vs (node_of n s low high)) (repeated c vs) = rw (same, node_based, list_based) right_based in
+      cuttable_in_range n s low high vs qs (repeated c vs) (with_weights vs (node_of n s low high)) refl parts.limits parts.sized parts.costs right none

@@ -13,3 +13,4 @@ pub mod SizeWhole
 pub mod Sharing
 pub mod Reweighted
 pub mod Realizations
+pub mod Bounding

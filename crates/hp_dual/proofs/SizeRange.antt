@@ -1,5 +1,5 @@
 -- Where the size of a list of certificates passes its range, by the amounts of its realizations and of the remainders.
-use Rattle.std.proofs.Common.{◌≡◌, ℕ, zero, suc, ◌+◌, ◌-◌, ◌*◌, ◌/◌, ◌%◌, ◌^◌, ◌<◌, ◌≤◌, ℤ, pos, negsuc, ◌+ℤ◌, ◌-ℤ◌, ◌*ℤ◌, ◌≤ℤ◌, ◌<ℤ◌, List, [], ◌∷◌, ◌++◌, length, map, take, zip, sum, max, All, nat_abs, Option, Some, None, arith, refl, ap, ap₂, sym, ◌∙◌, subst, mul-pos, mul-le-mul_left, add-one}
+use Rattle.std.proofs.Common.{◌≡◌, ℕ, zero, suc, ◌+◌, ◌-◌, ◌*◌, ◌/◌, ◌%◌, ◌^◌, ◌<◌, ◌≤◌, ℤ, pos, negsuc, ◌+ℤ◌, ◌-ℤ◌, ◌*ℤ◌, ◌≤ℤ◌, ◌<ℤ◌, List, [], ◌∷◌, ◌++◌, length, map, take, zip, sum, max, All, nat_abs, Option, Some, None, is_some, true, false, arith, refl, ap, ap₂, sym, ◌∙◌, subst, mul-pos, mul-le-mul_left, add-one}
 use Rattle.std.specs.List.{sum_by}
 use Rattle.std.specs.Int.{int_rem_euclid}
 use Rattle.std.proofs.lemmas.Int.{ints}
@@ -191,3 +191,17 @@ module _ (pools : List (List Cut)) (n : nodes.Node) (s : Subproblem) (low high :
     unfolding tail
     range_ends t (Some z) is h a = onward t is h ∙ range_last-in t (length list) (remainders_amount ws n s low list) (omega (arith, a, z.in_range))
     range_ends t None is h a = onward t is h ∙ range_last-out t (length list) (remainders_amount ws n s low list) a
+
+    -- nothing does where a bound of the sizes does not
+    pub range_within : (t : ℕ) → sum_by (weighted_amount n s low high pools) (zip ws (zip n.values list)) ≤ t → t + remainders_amount ws n s low list < 2 ^ 127 → range_of pools (with_weights ws (node_of n s low high)) list ≡ None
+    unfolding tail
+    range_within t within h =
+        let whole : ℕ = sum_by (weighted_amount n s low high pools) (zip ws (zip n.values list)) in
+        onward whole refl (omega (arith, within, h)) ∙ range_last-in whole (length list) (remainders_amount ws n s low list) (omega (arith, within, h))
+
+pub added : (r : Option Size) (t m : ℕ) → is_some r ≡ true → AddsSize t r m → t + m < 2 ^ 127
+added None t m e a = absurd (no e)
+  where
+    no : false ≡ true → ⊥
+    no h = cc
+added (Some z) t m e a = omega (arith, a, z.in_range)

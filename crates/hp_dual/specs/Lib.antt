@@ -1,3 +1,4 @@
 pub mod Bases
 pub mod Shares
 pub mod Pairs
+pub mod Bounds

@@ -8,7 +8,7 @@ pub mod reweighting;
 mod size;
 
 pub use acceptance::checker::accept_with;
-pub use acceptance::making::accept_into;
+pub use acceptance::making::{accept_into, write_cut_in_range};
 pub use base_pools::{BaseFault, base, base_certificate, no_slopes};
 pub use magnitudes::{absolute, reach};
 pub use reweighting::cuts::make_each;

@@ -9,10 +9,12 @@ ghost use Rattle.hp_theory.specs.Pools.{pool};
 ghost use Rattle.hp_theory.specs.Certificates.{Right};
 ghost use Rattle.hp_theory.specs.CutOf.{divisor};
 ghost use Rattle.hp_theory.specs.Size.{size_of};
+ghost use Rattle.hp_theory.specs.Range.{range_of};
 ghost use Rattle.hp_theory.specs.Base.{base_list};
 ghost use Rattle.hp_theory.specs.Fit.{FitFor};
 ghost use Rattle.hp_cut_making.specs.Sized.{Sized};
-ghost use Rattle.hp_cut_making.specs.Acceptance.{right_fault, range_fault, fault_of, Accepts, SumsAccepted};
+ghost use Rattle.hp_cut_making.specs.Acceptance.{right_fault, range_fault, fault_of, Accepts};
+ghost use Rattle.hp_cut_making.specs.Tabled.{SumsInRange};
 
 use super::walk::{check_certificates, check_count};
 use crate::size::sums_in_range;
@@ -23,20 +25,15 @@ use hp_parts::MOST_STATES;
 use hp_problem::Problem;
 use hp_theory::Certificate;
 
-/// B modulo 2^128 where the size stays in range.
-pub(super) fn range_sums(
-    here: &NodeAt,
-    list: &[Certificate],
-) -> Result<[i128; MOST_STATES], CertFault>
+/// B modulo 2^128 where the size stays in range, else the realization at which it does not.
+pub(super) fn range_sums(here: &NodeAt, list: &[Certificate]) -> Result<[i128; MOST_STATES], u32>
     requires sized { Sized here.now.pools.now.lists here.now.node.now here.now.subproblem.now here.now.low.now here.now.weights.now }
     requires list { length list.now ≡ length here.now.weights.now }
-    ensures { SumsAccepted here.now.weights.now here.now.node.now here.now.subproblem.now list.now (range_fault here.now.pools.now.lists (with_weights here.now.weights.now (node_of here.now.node.now here.now.subproblem.now here.now.low.now here.now.high.now)) list.now) result }
+    ensures { SumsInRange here.now.weights.now here.now.node.now here.now.subproblem.now list.now (range_of here.now.pools.now.lists (with_weights here.now.weights.now (node_of here.now.node.now here.now.subproblem.now here.now.low.now here.now.high.now)) list.now) result }
 {
     match sums_in_range(here, list) {
         Ok(sums) => Ok(sums),
-        Err(r) => Err(CertFault::Range {
-            realization: r as u32,
-        }),
+        Err(realization) => Err(realization as u32),
     }
 }
 
@@ -48,7 +45,7 @@ fn check_range(here: &NodeAt, list: &[Certificate]) -> Result<(), CertFault>
 {
     match range_sums(here, list) {
         Ok(_) => Ok(()),
-        Err(fault) => Err(fault),
+        Err(realization) => Err(CertFault::Range { realization }),
     }
 }
 

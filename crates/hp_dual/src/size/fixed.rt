@@ -40,13 +40,13 @@ pub(super) fn plus_capped(size: Size, fixed: u128) -> Option<Size>
 
 /// The boxes that a row's terms of the decisions and of the incoming state are over.
 #[derive(Clone, Copy)]
-struct Boxes<'a> {
-    decisions: DecisionBoxes<'a>,
-    states: StateBox<'a>,
+pub(super) struct Boxes<'a> {
+    pub(super) decisions: DecisionBoxes<'a>,
+    pub(super) states: StateBox<'a>,
 }
 
 /// A row's terms of the decisions and of the incoming state.
-fn row_size(row: &Row, boxes: &Boxes) -> Option<Size>
+pub(super) fn row_size(row: &Row, boxes: &Boxes) -> Option<Size>
     ensures { AddsSize 0 result (fixed_row boxes.now.decisions.decisions.now boxes.now.states.low.now boxes.now.states.high.now row.now) }
 {
     let decided = plus_terms(Size::zero(), row.decisions.as_slice(), &boxes.decisions)?;
@@ -94,7 +94,7 @@ fn plus_decisions(size: Size, decisions: &[Decision]) -> Option<Size>
 }
 
 /// Sizes the stage costs without the random costs.
-fn costs_size(sub: &Subproblem, states: &StateBox) -> Option<Size>
+pub(super) fn costs_size(sub: &Subproblem, states: &StateBox) -> Option<Size>
     ensures { AddsSize 0 result (fixed_costs sub.now states.now.low.now states.now.high.now) }
 {
     let constant = Size::zero().plus_product(1, absolute(sub.constant))?;

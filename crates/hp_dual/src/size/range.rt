@@ -1,5 +1,5 @@
 // The size of a list of certificates, and where it passes its range.
-ghost use Rattle.std.specs.Prelude.{◌≡◌, ◌-◌, ◌^◌, ◌<◌, ◌≤◌, ℕ, ℤ, pos, ◌-ℤ◌, ◌*ℤ◌, ◌≤ℤ◌, List, length, nat_abs, zip, All, MatchResult};
+ghost use Rattle.std.specs.Prelude.{◌≡◌, ◌-◌, ◌^◌, ◌<◌, ◌≤◌, ℕ, ℤ, pos, true, None, ◌-ℤ◌, ◌*ℤ◌, ◌≤ℤ◌, List, length, nat_abs, zip, All, MatchResult};
 ghost use Rattle.std.specs.List.{sum_by};
 ghost use Rattle.hp_num.specs.Sums.{floor_over};
 ghost use Rattle.hp_theory.specs.declared.cut.Certificate.{Certificate};
@@ -13,6 +13,7 @@ ghost use Rattle.hp_cut_making.specs.SizeByTerms.{AddsSize, weighted_amount};
 ghost use Rattle.hp_cut_making.specs.Tabled.{SumsInRange, Tabled};
 ghost use Rattle.hp_dual.specs.Pairs.{IsPairsAt, IsPairsBefore};
 
+use super::bound::size_bound;
 use super::fixed::{FEW_ROWS, FixedAmounts, write_rows};
 use super::stages::{pairs_size, realization_over};
 use super::terms::plus_scaled;
@@ -129,6 +130,20 @@ pub(crate) fn remainders_range(size: Size, here: &NodeAt, sums: &[i128]) -> Opti
     }
 }
 
+/// Tells whether a bound of the size shows that it stays in range, with the remainders of the slopes. B is given modulo 2^128.
+fn is_bounded(here: &NodeAt, list: &[Certificate], sums: &[i128]) -> bool
+    requires sized { Sized here.now.pools.now.lists here.now.node.now here.now.subproblem.now here.now.low.now here.now.weights.now }
+    requires list { length list.now ≡ length here.now.weights.now }
+    requires count { length sums.now ≡ 50 }
+    requires table { Tabled (beta_sum (unboxed here.now.weights.now here.now.node.now here.now.subproblem.now) list.now) sums.now }
+    ensures { result ≡ true → range_of here.now.pools.now.lists (with_weights here.now.weights.now (node_of here.now.node.now here.now.subproblem.now here.now.low.now here.now.high.now)) list.now ≡ None }
+{
+    match size_bound(here, list) {
+        Some(size) => plus_remainders(size, here, sums).is_some(),
+        None => false,
+    }
+}
+
 /// B modulo 2^128 where the size of a list of certificates with given weights stays in range. Else the realization at
 /// which it passes 2^127 - 1: the least such that the terms of the realizations up to it do, or their number where only
 /// the remainders of the slopes bring it there.
@@ -140,11 +155,14 @@ pub(crate) fn sums_in_range(
     requires list { length list.now ≡ length here.now.weights.now }
     ensures { SumsInRange here.now.weights.now here.now.node.now here.now.subproblem.now list.now (range_of here.now.pools.now.lists (with_weights here.now.weights.now (node_of here.now.node.now here.now.subproblem.now here.now.low.now here.now.high.now)) list.now) result }
 {
+    let sums = slope_sums(here, list);
+    if is_bounded(here, list, &sums) {
+        return Ok(sums);
+    }
     let size = match realizations_size(here, list) {
         Ok(size) => size,
         Err(realization) => return Err(realization),
     };
-    let sums = slope_sums(here, list);
     match remainders_range(size, here, &sums) {
         Some(realization) => Err(realization),
         None => Ok(sums),

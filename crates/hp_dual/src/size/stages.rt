@@ -35,7 +35,7 @@ fn unit(node: &Node) -> u128
 
 /// S.
 #[tactic(auto, unfolding(hp_theory::specs::Problem::S))]
-fn scale() -> u128
+pub(super) fn scale() -> u128
     ensures value { result ≡ S }
     ensures positive { 1 ≤ result }
 {
