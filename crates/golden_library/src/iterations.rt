@@ -5,7 +5,7 @@ ghost use Rattle.hp_cut.specs.AtNodes.{PoolsFit};
 
 use crate::fault::RowFault;
 use crate::lines::{push_entries, push_fault, push_sums};
-use hp_cut::{Entry, Pools};
+use hp_cut::{Entry, Pools, Spares};
 use hp_dual::base;
 use hp_lp::{Planner, Workspace, prepare};
 use hp_num::List;
@@ -81,14 +81,20 @@ fn step<R: Threads + Sync, V: Solver>(
     iteration(rt, work, planner, pools, draw)
 }
 
-/// Appends what an iteration gave at the level of detail that is asked. A node without decisions is told in any case.
+/// Appends what an iteration gave at the level of detail that is asked. A node without decisions is told in any case. The memory of
+/// the entries is kept.
 fn push_step(
     text: &mut String,
+    spares: &mut Spares,
     stepped: Result<List<Entry>, PlanFault>,
     told: Told,
 ) -> Result<(), RowFault> {
     match stepped {
-        Ok(entries) => push_told(text, entries.as_slice(), told),
+        Ok(entries) => {
+            push_told(text, entries.as_slice(), told)?;
+            spares.give_back(entries);
+            Ok(())
+        }
         Err(fault) => push_fault(text, fault),
     }
 }
@@ -112,7 +118,7 @@ pub fn steps<R: Threads + Sync, V: Solver>(
             iteration: done + 1,
         };
         let stepped = step(rt, work, planner, pools, draw);
-        push_step(text, stepped, plan.told)?;
+        push_step(text, &mut work.spares, stepped, plan.told)?;
     }
     Ok(())
 }

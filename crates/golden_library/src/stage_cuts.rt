@@ -7,7 +7,7 @@ ghost use Rattle.hp_cut.specs.AtNodes.{PoolsFit};
 
 use crate::fault::RowFault;
 use crate::stage_answers::answer;
-use hp_cut::{Cut, Pools};
+use hp_cut::{Cut, Pools, Spares};
 use hp_dual::{accept_into, no_slopes};
 use hp_num::{List, Memory};
 use hp_problem::Problem;
@@ -31,9 +31,11 @@ fn certificates(
 {
     let rows = problem.sub(node).rows.len();
     let answer = answer(alloc, rows, 0, turn)?;
+    let mut spares = Spares::new(alloc);
     let mut list = List::new(alloc);
     for _ in problem.node(node).weights.as_slice() {
-        list.push(certificate_of_duals(alloc, problem, pools, node, &answer)?)?;
+        let spares = &mut spares;
+        list.push(certificate_of_duals(alloc, spares, problem, pools, node, &answer)?)?;
     }
     Ok(list)
 }

@@ -11,7 +11,7 @@ use crate::stage_cuts::add_cuts;
 use crate::stage_moments::{Moment, first, last};
 use crate::stage_texts::{push_certificate, push_program};
 use crate::words::count;
-use hp_cut::Pools;
+use hp_cut::{Pools, Spares};
 use hp_lp::{StageMemory, set_sides, stage_problem};
 use hp_num::Memory;
 use hp_problem::Problem;
@@ -108,10 +108,11 @@ fn settled(
     requires known { 0 < length problem.now.parts.nodes }
     requires fit { PoolsFit problem.now pools.now.lists }
 {
+    let mut spares = Spares::new(alloc);
     for _ in 0..settles {
-        certificate_of_duals(alloc, problem, pools, NODE, answer)?;
+        certificate_of_duals(alloc, &mut spares, problem, pools, NODE, answer)?;
     }
-    certificate_of_duals(alloc, problem, pools, NODE, answer)
+    certificate_of_duals(alloc, &mut spares, problem, pools, NODE, answer)
 }
 
 /// The first successor of the node.

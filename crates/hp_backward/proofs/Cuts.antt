@@ -1,13 +1,13 @@
 -- The cut of settled certificates, and pools with it.
-use Rattle.std.proofs.Common.{◌≡◌, ℕ, zero, suc, Ok, ◌+◌, ◌-◌, ◌/◌, ◌<◌, ℤ, true, List, [], ◌∷◌, ◌++◌, length, map, take, All, Option, Some, None, refl, ap, sym, subst, ◌∙◌, arith}
+use Rattle.std.proofs.Common.{◌≡◌, ℕ, zero, suc, Ok, ◌+◌, ◌-◌, ◌/◌, ◌<◌, ℤ, true, List, [], ◌∷◌, ◌++◌, length, map, take, All, refl, ap, sym, subst, ◌∙◌, arith}
 use Rattle.std.proofs.Common.{length-append}
-use Rattle.std.specs.Option.{option_map}
 use Rattle.std.proofs.Math.Seq.{take-append_seam}
 use Rattle.std.proofs.lemmas.List.{length-set, take-append-drop}
 use Rattle.std.proofs.lemmas.List.Elements.{All-push}
 use Rattle.hp_problem.specs.Validated.{Validated, is_validated}
 use Rattle.hp_theory.specs.declared.cut.Cut.{Cut}
 use Rattle.hp_theory.specs.declared.cut.Certificate.{Certificate}
+use Rattle.hp_theory.specs.Certificates.{Right}
 use Rattle.hp_theory.specs.Problem.{Node, Problem, node_at}
 use Rattle.hp_theory.specs.View.{problem_of}
 use Rattle.hp_theory.specs.Fit.{CutFits, Fit}
@@ -15,11 +15,9 @@ use Rattle.hp_theory.specs.Pools.{pool, push}
 use Rattle.hp_theory.proofs.Appending.{push_at, kept_some}
 use Rattle.hp_cut.specs.AtNodes.{PoolsFit}
 use Rattle.hp_solver.specs.declared.programs.Answer.{Answer}
-use Rattle.hp_cut_making.specs.declared.fault.CertFault.{CertFault}
-use Rattle.hp_cut_making.specs.declared.fault.CertFault.TheVariants as faults
-use Rattle.hp_cut_making.specs.Acceptance.{fault_of, range_fault}
 use Rattle.hp_settle.specs.Settling.{settled_of}
-use Rattle.hp_settle.proofs.SettledNode.{only_range-validated}
+use Rattle.hp_settle.proofs.SettledNode.{have_cuts}
+use Rattle.hp_settle.proofs.SettledRight.{settled_list_right}
 use Rattle.hp_solver.specs.Solving.{Solving}
 use Rattle.hp_backward.specs.declared.certified.Certified.{Certified}
 use Rattle.hp_backward.specs.Certifying.{node_values_at, first_half, second_half, answers_to, answers_at, nothing_certified, certified}
@@ -55,31 +53,13 @@ counted_answers_at v p pools m state =
     let whole : length (first_half vs) + length (second_half vs) ≡ length vs = sym (length-append (first_half vs) (second_half vs)) ∙ ap (λ (all : List (List ℤ)). length all) (take-append-drop (length vs / 2) vs) in
     omega (arith, length-append xs ys, counted-answers_to v p pools m state (first_half vs), counted-answers_to v p pools m state (second_half vs), whole)
 
--- settled certificates can only be refused for their size
+-- settled certificates are right
 pub settled_list : {Start Chain : Type 0} (v : Solving Start Chain) (p : Validated) (pools : List (List Cut)) (k m : ℕ) (state : List ℤ) (found : Certified) → is_validated p ≡ true → m < length p.parts.nodes → PoolsFit p pools
-    → certified v p pools k m state ≡ Ok found → fault_of pools (node_at (problem_of p) m) found.list ≡ range_fault pools (node_at (problem_of p) m) found.list
+    → certified v p pools k m state ≡ Ok found → Right pools (node_at (problem_of p) m) found.list
 unfolding certified
 settled_list v p pools k m state found e h fit is =
     let n : Node = node_at (problem_of p) m in
     let xs : List Answer = answers_at v p pools m state in
     let count : length xs ≡ length (node_values_at p.parts m) = counted_answers_at v p pools m state in
     let list : found.list ≡ map (settled_of pools n) xs = listed pools n k m state nothing_certified (node_values_at p.parts m) xs found count is in
-    subst (λ (l : List Certificate). fault_of pools n l ≡ range_fault pools n l) (sym list) (only_range-validated p m pools xs e h fit (count ∙ (values_here p m e h).count))
-
--- where no fault of the size comes, the size is in range
-pub none_past : (o : Option ℕ) → option_map faults.Range o ≡ None → o ≡ None
-none_past None e = refl
-none_past (Some r) e = absurd (some_none (faults.Range r) e)
-  where
-    some_none : (f : CertFault) → Some f ≡ None → ⊥
-    some_none f e = cc
-
-pub some_past : (o : Option ℕ) (r : ℕ) → option_map faults.Range o ≡ Some (faults.Range r) → o ≡ Some r
-some_past None r e = absurd (none_some (faults.Range r) e)
-  where
-    none_some : (f : CertFault) → None ≡ Some f → ⊥
-    none_some f e = cc
-some_past (Some q) r e = ap Some (same q r e)
-  where
-    same : (q r : ℕ) → Some (faults.Range q) ≡ Some (faults.Range r) → q ≡ r
-    same q r e = cc
+    subst (λ (l : List Certificate). Right pools n l) (sym list) (settled_list_right pools n xs (have_cuts p m pools e h fit) (count ∙ (values_here p m e h).count))

@@ -10,7 +10,7 @@ ghost use Rattle.hp_settle.specs.Faults.{Stops};
 ghost use Rattle.hp_backward.specs.Certifying.{certify, nothing_certified};
 ghost use Rattle.hp_backward.specs.Given.{CanVisit, IsStageOver};
 
-use hp_cut::Pools;
+use hp_cut::{Pools, Spares};
 use hp_lp::{Planner, StageMemory, stage_problem};
 use hp_num::{List, Memory};
 use hp_settle::{Classified, Infeasibility, PlanFault, certificate_of_duals, classify};
@@ -39,12 +39,12 @@ pub(crate) struct Certified {
 }
 
 impl Certified {
-    /// No certificates.
-    pub(crate) fn nothing(alloc: Global) -> Certified
+    /// No certificates, in the memory of those that are done with.
+    pub(crate) fn nothing(alloc: Global, spares: &mut Spares) -> Certified
         ensures { result ≡ nothing_certified }
     {
         Certified {
-            list: List::new(alloc),
+            list: spares.certificates.take(alloc),
             unanswered: 0,
         }
     }
@@ -71,11 +71,13 @@ impl<'a, V: Solver> Visit<'a, V> {
         )
     }
 
-    /// Certifies one more realization: classifies its answer, and settles it to a certificate.
+    /// Certifies one more realization: classifies its answer, and settles it to a certificate, in the memory of those that are done
+    /// with.
     #[tactic(auto, unfolding(crate::specs::Certifying::certify))]
     pub(crate) fn certify(
         &self,
         alloc: Global,
+        spares: &mut Spares,
         values: &[i64],
         answer: &Answer,
         found: &mut Certified,
@@ -102,7 +104,9 @@ impl<'a, V: Solver> Visit<'a, V> {
                 return Err(PlanFault::Infeasible(infeasible));
             }
         }
-        let certificate = certificate_of_duals(alloc, problem, self.pools, self.node, answer)?;
+        let certificate = certificate_of_duals(
+            alloc, spares, problem, self.pools, self.node, answer,
+        )?;
         found.list.push(certificate)?;
         Ok(())
     }

@@ -1,5 +1,5 @@
 // Realizations of a node, solved one after another in a chain.
-ghost use Rattle.std.specs.Prelude.{◌≡◌, ◌<◌, ◌≤◌, ℤ, true, List, length, map, All, IfOk, OnOk};
+ghost use Rattle.std.specs.Prelude.{◌≡◌, ◌+◌, ◌-◌, ◌^◌, ◌<◌, ◌≤◌, ℤ, true, List, length, map, All, IfOk, OnOk};
 ghost use Rattle.hp_num.specs.Steps.{GivesOr};
 ghost use Rattle.hp_parts.specs.Limits.{are_values};
 ghost use Rattle.hp_problem.specs.Validated.{subproblem_of};
@@ -14,11 +14,41 @@ ghost use Rattle.hp_settle.specs.Faults.{Stops};
 ghost use Rattle.hp_backward.specs.Given.{CanVisit, IsStageOver};
 
 use crate::certified::{Certified, Visit};
+use hp_cut::Spares;
 use hp_lp::{Workspace, set_sides};
 use hp_num::List;
 use hp_settle::PlanFault;
 use hp_solver::{Solver, StageLp};
 use std::alloc::Global;
+
+/// Certifies the realization with these values, by the next solve of a chain that has begun with a stage problem of the node.
+fn certify_next<V: Solver>(
+    alloc: Global,
+    spares: &mut Spares,
+    here: &Visit<V>,
+    own: &[i64],
+    lp: &mut StageLp,
+    chain: &mut V::Chain,
+    found: &mut Certified,
+) -> Result<(), PlanFault>
+    requires visit { CanVisit here.now.planner.now.problem.now here.now.pools.now.lists here.now.node here.now.state.now }
+    requires values { are_values (subproblem_of here.now.planner.now.problem.now here.now.node) own.now ≡ true }
+    requires few { found.old.unanswered < 2 ^ 32 - 1 }
+    requires stage { IsStageOver here.now.planner.now.problem.now here.now.pools.now.lists here.now.node lp.old }
+    requires fits { (other : Program) → IsLike lp.old other → V.fits here.now.planner.now.solver.now chain.old other }
+    ensures stage { OnOk result (IsStageOver here.now.planner.now.problem.now here.now.pools.now.lists here.now.node lp.new) }
+    ensures value { GivesOr Stops (λ _. found.new) result
+        (certify here.now.pools.now.lists (node_at (problem_of here.now.planner.now.problem.now) here.now.node) here.now.iteration here.now.node here.now.state.now found.old own.now
+        ((V.does here.now.planner.now.solver.now).next chain.old (stage_at here.now.planner.now.problem.now here.now.pools.now.lists here.now.node own.now here.now.state.now)).0) }
+    ensures chain { OnOk result (chain.new ≡ ((V.does here.now.planner.now.solver.now).next chain.old (stage_at here.now.planner.now.problem.now here.now.pools.now.lists here.now.node own.now here.now.state.now)).1) }
+    ensures few { found.new.unanswered ≤ found.old.unanswered + 1 }
+    ensures fits { OnOk result ((other : Program) → IsLike lp.new other → V.fits here.now.planner.now.solver.now chain.new other) }
+{
+    let (problem, solver) = (here.planner.problem(), here.planner.solver());
+    set_sides(problem, here.node, own, here.state, lp);
+    let answer = solver.solve(alloc, chain, lp)?;
+    here.certify(alloc, spares, own, &answer, found)
+}
 
 /// Certifies the realizations with these values, in a chain that has begun with a stage problem of the node. The chain's memory
 /// goes to the workspace afterwards.
@@ -42,12 +72,18 @@ fn certify_in_chain<V: Solver>(
 {
     let alloc = work.alloc();
     let mut chain = chain;
-    let mut found = Certified::nothing(alloc);
-    let (problem, solver) = (here.planner.problem(), here.planner.solver());
+    let mut found = Certified::nothing(alloc, &mut work.spares);
     for own in values {
-        set_sides(problem, here.node, own.as_slice(), here.state, lp);
-        let answer = solver.solve(alloc, &mut chain, lp)?;
-        here.certify(alloc, own.as_slice(), &answer, &mut found)?;
+        let own = own.as_slice();
+        certify_next(
+            alloc,
+            &mut work.spares,
+            here,
+            own,
+            lp,
+            &mut chain,
+            &mut found,
+        )?;
     }
     work.keep_chain(chain);
     Ok(found)
@@ -71,8 +107,9 @@ pub(crate) fn certify_over<V: Solver>(
         (in_chain (V.does here.now.planner.now.solver.now) here.now.planner.now.problem.now here.now.pools.now.lists here.now.iteration here.now.node here.now.state.now values.now) }
     ensures few { IfOk result (λ found. found.unanswered ≤ length values.now) }
 {
+    let alloc = work.alloc();
     let Some(first) = values.first() else {
-        return Ok(Certified::nothing(work.alloc()));
+        return Ok(Certified::nothing(alloc, &mut work.spares));
     };
     let problem = here.planner.problem();
     set_sides(problem, here.node, first.as_slice(), here.state, lp);
@@ -93,10 +130,10 @@ pub(crate) fn certify_each<V: Solver>(
         (in_chain (V.does here.now.planner.now.solver.now) here.now.planner.now.problem.now here.now.pools.now.lists here.now.iteration here.now.node here.now.state.now values.now) }
     ensures few { IfOk result (λ found. found.unanswered ≤ length values.now) }
 {
-    let Some(first) = values.first() else {
-        return Ok(Certified::nothing(alloc));
-    };
     let mut work = Workspace::new(alloc);
+    let Some(first) = values.first() else {
+        return Ok(Certified::nothing(alloc, &mut work.spares));
+    };
     let mut lp = here.stage(&mut work.stages, first.as_slice())?;
     certify_over(&mut work, here, values, &mut lp)
 }

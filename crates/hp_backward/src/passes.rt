@@ -119,10 +119,11 @@ pub fn backward_pass<R: Threads, V: Solver>(
     ensures sound { Sound (problem_of planner.now.problem.now) pools.old.lists → Sound (problem_of planner.now.problem.now) pools.new.lists }
 {
     let _ = planner.problem().parts();
+    let alloc = work.alloc();
     let mut entry = Entry {
         iteration: pass.iteration,
         unanswered: pass.trajectory.unanswered,
-        steps: List::new(work.alloc()),
+        steps: work.spares.steps.take(alloc),
     };
     match go_back(rt, work, planner, pools, pass, &mut entry) {
         Ok(()) => Ok(entry),

@@ -9,7 +9,7 @@ ghost use Rattle.hp_theory.specs.Range.{range_of};
 ghost use Rattle.hp_theory.specs.View.{problem_of};
 ghost use Rattle.hp_cut.specs.AtNodes.{PoolsFit};
 ghost use Rattle.hp_cut.specs.declared.entry.EntryStep.{EntryStep};
-ghost use Rattle.hp_cut_making.specs.Acceptance.{fault_of, range_fault};
+ghost use Rattle.hp_theory.specs.Certificates.{Right};
 ghost use Rattle.hp_backward.specs.Given.{CanVisit};
 ghost use Rattle.hp_settle.specs.Faults.{Stops};
 ghost use Rattle.hp_backward.specs.Sweeping.{made_at, seen, step_back, taken_back, within_range};
@@ -17,8 +17,7 @@ ghost use Rattle.hp_backward.specs.Sweeping.{made_at, seen, step_back, taken_bac
 use crate::certified::{Certified, Visit};
 use crate::two_chains::certified;
 use hp_cut::{Cut, Entry, EntryStep, Pools};
-use hp_cut_making::CertFault;
-use hp_dual::accept_into;
+use hp_dual::write_cut_in_range;
 use hp_lp::{Planner, Workspace};
 use hp_num::{List, Memory};
 use hp_sampler::PathStep;
@@ -28,7 +27,7 @@ use hp_theory::Certificate;
 use std::alloc::Global;
 use std::thread::Threads;
 
-/// Settled certificates are accepted and their cut is written, unless their size passes the range.
+/// Writes the cut of right certificates, unless their size passes the range.
 fn write_cut<V: Solver>(
     here: &Visit<V>,
     list: &[Certificate],
@@ -36,22 +35,20 @@ fn write_cut<V: Solver>(
 ) -> Result<(), PlanFault>
     requires known { here.now.node < length here.now.planner.now.problem.now.parts.nodes }
     requires fit { FitFor (problem_of here.now.planner.now.problem.now) (length here.now.planner.now.problem.now.parts.nodes) here.now.pools.now.lists here.now.node }
-    requires settled { fault_of here.now.pools.now.lists (node_at (problem_of here.now.planner.now.problem.now) here.now.node) list.now
-        ≡ range_fault here.now.pools.now.lists (node_at (problem_of here.now.planner.now.problem.now) here.now.node) list.now }
+    requires right { Right here.now.pools.now.lists (node_at (problem_of here.now.planner.now.problem.now) here.now.node) list.now }
     requires slopes { length cut.old.beta ≡ length here.now.planner.now.problem.now.parts.states }
     ensures value { let n = node_at (problem_of here.now.planner.now.problem.now) here.now.node in
         GivesOr Stops (λ _. cut.new) result (within_range here.now.iteration here.now.node (range_of here.now.pools.now.lists n list.now) (cut_of here.now.pools.now.lists n list.now)) }
     ensures fits { IfOk result (λ _. CutFits (node_at (problem_of here.now.planner.now.problem.now) here.now.node) cut.new) }
     ensures holds { IfOk result (λ _. Sound (problem_of here.now.planner.now.problem.now) here.now.pools.now.lists → Holds (problem_of here.now.planner.now.problem.now) here.now.node cut.new) }
 {
-    match accept_into(here.planner.problem(), here.pools, here.node, list, cut) {
+    match write_cut_in_range(here.planner.problem(), here.pools, here.node, list, cut) {
         Ok(()) => Ok(()),
-        Err(CertFault::Range { realization }) => Err(PlanFault::Range {
+        Err(realization) => Err(PlanFault::Range {
             iteration: here.iteration,
             node: here.node,
             realization,
         }),
-        Err(_) => unreachable!(),
     }
 }
 
@@ -65,12 +62,11 @@ fn flat(alloc: Global, states: usize) -> Result<Cut, Memory>
     })
 }
 
-/// The cut of settled certificates.
+/// The cut of right certificates.
 fn cut_of<V: Solver>(alloc: Global, here: &Visit<V>, list: &[Certificate]) -> Result<Cut, PlanFault>
     requires known { here.now.node < length here.now.planner.now.problem.now.parts.nodes }
     requires fit { FitFor (problem_of here.now.planner.now.problem.now) (length here.now.planner.now.problem.now.parts.nodes) here.now.pools.now.lists here.now.node }
-    requires settled { fault_of here.now.pools.now.lists (node_at (problem_of here.now.planner.now.problem.now) here.now.node) list.now
-        ≡ range_fault here.now.pools.now.lists (node_at (problem_of here.now.planner.now.problem.now) here.now.node) list.now }
+    requires right { Right here.now.pools.now.lists (node_at (problem_of here.now.planner.now.problem.now) here.now.node) list.now }
     ensures value { let n = node_at (problem_of here.now.planner.now.problem.now) here.now.node in
         GivesOr Stops (λ cut. cut) result (within_range here.now.iteration here.now.node (range_of here.now.pools.now.lists n list.now) (cut_of here.now.pools.now.lists n list.now)) }
     ensures fits { IfOk result (CutFits (node_at (problem_of here.now.planner.now.problem.now) here.now.node)) }

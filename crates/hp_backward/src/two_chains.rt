@@ -12,6 +12,7 @@ ghost use Rattle.hp_backward.specs.Given.{CanVisit, IsStageOver};
 
 use crate::certified::{Certified, Visit};
 use crate::chains::{certify_each, certify_over};
+use hp_cut::Spares;
 use hp_lp::{Planner, Workspace};
 use hp_num::{List, Memory};
 use hp_problem::Problem;
@@ -42,14 +43,15 @@ fn halves(values: &[List<i64>]) -> (&[List<i64>], &[List<i64>])
     values.split_at(values.len() / 2)
 }
 
-/// The certificates of two parts, one after the other.
-fn joined(first: Certified, second: Certified) -> Result<Certified, Memory>
+/// The certificates of two parts, one after the other. The memory of the second part's list is kept.
+fn joined(spares: &mut Spares, first: Certified, second: Certified) -> Result<Certified, Memory>
     requires { first.unanswered + second.unanswered ≤ 100 }
     ensures { IfOk result (λ found. found ≡ both_certified first second) }
 {
     let mut list = first.list.into_vec();
     let mut tail = second.list.into_vec();
     list.append(&mut tail)?;
+    spares.certificates.give(List::from_vec(tail));
     Ok(Certified {
         list: List::from_vec(list),
         unanswered: first.unanswered + second.unanswered,
@@ -58,6 +60,7 @@ fn joined(first: Certified, second: Certified) -> Result<Certified, Memory>
 
 /// Joins the certificates of two parts, one after the other. Where both refuse, the first part's fault comes.
 fn both(
+    spares: &mut Spares,
     first: Result<Certified, PlanFault>,
     second: Result<Certified, PlanFault>,
 ) -> Result<Certified, PlanFault>
@@ -67,13 +70,14 @@ fn both(
         → GivesOr Stops (λ found. found) result (in_order one other) }
     ensures few { IfOk result (λ found. found.unanswered ≤ 100) }
 {
-    Ok(joined(first?, second?)?)
+    Ok(joined(spares, first?, second?)?)
 }
 
 /// Certifies two parts of a node's realizations, each in a chain of its own, the chains beside each other.
 fn beside_each_other<R: Threads, V: Solver>(
     rt: &R,
     alloc: Global,
+    spares: &mut Spares,
     here: &Visit<V>,
     left: &[List<i64>],
     right: &[List<i64>],
@@ -131,7 +135,7 @@ fn beside_each_other<R: Threads, V: Solver>(
             certify_each(alloc, &here, right)
         },
     );
-    both(first, second)
+    both(spares, first, second)
 }
 
 /// Like `beside_each_other`, with the chains one after the other, over one stage problem.
@@ -154,7 +158,7 @@ fn one_after_the_other<V: Solver>(
 {
     let first = certify_over(work, here, left, lp)?;
     let second = certify_over(work, here, right, lp)?;
-    Ok(joined(first, second)?)
+    Ok(joined(&mut work.spares, first, second)?)
 }
 
 /// Like `beside_each_other` where a thread is worth it, by a stage problem of the node, and else like `one_after_the_other`.
@@ -181,7 +185,7 @@ fn in_two_chains<R: Threads, V: Solver>(
         .solver()
         .worth_a_thread(lp, left.len() + right.len())
     {
-        beside_each_other(rt, work.alloc(), here, left, right)
+        beside_each_other(rt, work.alloc(), &mut work.spares, here, left, right)
     } else {
         one_after_the_other(work, here, left, right, lp)
     }

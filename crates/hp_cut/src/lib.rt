@@ -11,9 +11,11 @@ mod flat_cuts;
 mod pool;
 pub mod pools;
 mod slope_range;
+mod spares;
 
 pub use box_maxima::OutBox;
 pub use cut_value::value_of_cut;
 pub use entry::{Entry, EntryStep};
 pub use hp_theory::{Certificate, Cut};
 pub use pools::{Pools, root_weight};
+pub use spares::Spares;

@@ -3,9 +3,8 @@ ghost use Rattle.std.specs.Prelude.{◌≡◌, List, ◌++◌, ◌∷◌, [], Op
 ghost use Rattle.std.specs.Option.{option_map};
 ghost use Rattle.hp_cut.specs.declared.entry.Entry.{Entry};
 
-use hp_cut::Entry;
+use hp_cut::{Entry, Spares};
 use hp_num::{List, Memory};
-use hp_record::Spares;
 
 /// Keeps the entries of each record, or lets them go.
 pub(crate) trait Keeper {

@@ -9,10 +9,9 @@ ghost use Rattle.hp_load.specs.Refusals.{LoadGives};
 use crate::records::{Gathered, add_record, check_formulas, decode};
 use crate::refusal::LoadFault;
 use crate::values::root_values;
-use hp_cut::Pools;
+use hp_cut::{Pools, Spares};
 use hp_num::{List, Memory};
 use hp_problem::Problem;
-use hp_record::Spares;
 use std::alloc::Global;
 
 /// The outcome of no records over the base cuts of a problem. [`Memory`] where memory was refused.

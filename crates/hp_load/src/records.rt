@@ -22,13 +22,13 @@ use crate::cuts::add_entries;
 use crate::keeping::Keeper;
 use crate::refusal::{JournalRefusal, LoadFault, of_entries, of_payload};
 use crate::values::bound;
-use hp_cut::{Entry, Pools};
+use hp_cut::{Entry, Pools, Spares};
 use hp_journal::{CommitByte, payload, read_commit_byte};
 use hp_num::List;
 use hp_outside::Disk;
 use hp_parts::MOST_ITERATIONS;
 use hp_problem::Problem;
-use hp_record::{Spares, decode_batch_with};
+use hp_record::decode_batch_with;
 use std::alloc::Global;
 
 /// The outcome of the records so far.

@@ -1,14 +1,17 @@
 // The memory that calls lend each other.
 use crate::stage_memory::StageMemory;
+use hp_cut::Spares;
 use hp_solver::{Solver, StageLp};
 use std::alloc::Global;
 
-/// The allocator, and memory that stage problems and chains of solves are done with. The next ones are written over it; no
-/// result depends on it.
+/// The allocator, and memory that stage problems, chains of solves and entries are done with. The next ones are written over it;
+/// no result depends on it.
 #[derive(Drop)]
 pub struct Workspace<V: Solver> {
     /// The allocator, and the memory of stage problems.
     pub stages: StageMemory,
+    /// The memory of entries, and of the certificates in them.
+    pub spares: Spares,
     /// The chain that came back last.
     pub(crate) chain: Option<V::Chain>,
 }
@@ -18,6 +21,7 @@ impl<V: Solver> Workspace<V> {
     pub fn new(alloc: Global) -> Workspace<V> {
         Workspace {
             stages: StageMemory::new(alloc),
+            spares: Spares::new(alloc),
             chain: None,
         }
     }

@@ -4,8 +4,7 @@ ghost use Rattle.hp_record.specs.Reading.{ReadingGives, many, read_row_at, pair_
 use crate::fault::ReadFault;
 use crate::numbers::{pair_at, row_at, u32_at};
 use crate::sizes::Sizes;
-use crate::spares::Spares;
-use hp_cut::Certificate;
+use hp_cut::{Certificate, Spares};
 use hp_num::List;
 use std::alloc::Global;
 

@@ -8,9 +8,8 @@ ghost use Rattle.hp_record.specs.Reading.{ReadingGives, Answers, IsNoText, OnBad
 use crate::fault::{EntryFault, ReadFault};
 use crate::numbers::{u16_at, u32_at};
 use crate::sizes::validated;
-use crate::spares::Spares;
 use crate::steps::steps;
-use hp_cut::Entry;
+use hp_cut::{Entry, Spares};
 use hp_num::List;
 use hp_problem::Problem;
 use std::alloc::Global;

@@ -8,11 +8,9 @@ mod fault;
 pub mod laws;
 mod numbers;
 mod sizes;
-mod spares;
 mod steps;
 pub mod worked;
 
 pub use decoding::{decode, decode_batch, decode_batch_with};
 pub use encoding::{encode, encode_batch};
 pub use fault::EntryFault;
-pub use spares::Spares;

@@ -81,7 +81,7 @@ fn ray_rows(
     ensures { IfOk result (λ found. found ≡ ray_rows (node_at (problem_of problem.now) node) duals.now digits) }
 {
     rows_over(
-        alloc,
+        List::new(alloc),
         problem.sub(node).rows.as_slice(),
         duals,
         power(digits),

@@ -1,16 +1,16 @@
 // Certificates from the duals of a solver's answer, which need not be right.
-ghost use Rattle.std.specs.Prelude.{◌≡◌, ℕ, ◌+◌, ◌-◌, ◌*◌, ◌<◌, ◌^◌, [], ◌∷◌, ◌++◌, length, map, min, drop, All, IfOk, OnOk};
+ghost use Rattle.std.specs.Prelude.{◌≡◌, ℕ, ◌+◌, ◌-◌, ◌*◌, ◌<◌, ◌≤◌, ◌^◌, [], ◌∷◌, ◌++◌, length, map, min, drop, All, IfOk, OnOk};
 ghost use Rattle.hp_num.specs.Sums.{floor_over};
 ghost use Rattle.hp_theory.specs.Problem.{S, node_at};
 ghost use Rattle.hp_theory.specs.Pools.{pool};
 ghost use Rattle.hp_theory.specs.View.{successors_of, problem_of};
 ghost use Rattle.hp_theory.specs.Certificates.{multipliers, RightAt};
 ghost use Rattle.hp_cut.specs.AtNodes.{PoolsFit};
-ghost use Rattle.hp_solver.specs.declared.fixed.Fx.{Fx};
+ghost use Rattle.hp_solver.specs.Duals.{dual_in, not_zero, kept, all_kept};
 ghost use Rattle.hp_settle.specs.Kept.{kept_pairs, left_over};
 ghost use Rattle.hp_settle.specs.Settling.{row_dual, rescaled_multiplier, clamped_number, row_multiplier_over, row_multipliers_over, settled_rows, cut_multiplier, cut_multipliers, capped, missing, place_of_greatest, pairs_from, raised_pair, raised_first, topped, settled_pairs, settled_successors, used_duals, settled_of};
 
-use hp_cut::Pools;
+use hp_cut::{Pools, Spares};
 use hp_cut_making::is_sign;
 use hp_num::{List, Memory, floor_div};
 use hp_parts::{Node, Row, Subproblem};
@@ -71,17 +71,19 @@ fn row_over(row: &Row, dual: i128, divisor: u64) -> i64
     }
 }
 
-/// The multipliers of rows: their duals over the divisor, as of one row each. [`Memory`] where memory was refused.
+/// The multipliers of rows, in the memory of a list without values: their duals over the divisor, as of one row each. [`Memory`]
+/// where memory was refused.
 pub(crate) fn rows_over(
-    alloc: Global,
+    over: List<i64>,
     rows: &[Row],
     duals: &Duals,
     divisor: u64,
 ) -> Result<List<i64>, Memory>
-    requires { 0 < divisor }
+    requires divisor { 0 < divisor }
+    requires over { over ≡ [] }
     ensures { IfOk result (λ found. found ≡ row_multipliers_over divisor 0 rows.now duals.now) }
 {
-    let mut found = List::from_vec(Vec::with_capacity(alloc, rows.len())?);
+    let mut found = over;
     for (i, row) in rows.iter().enumerate() {
         found.push(row_over(row, dual_at(duals, i), divisor))?;
     }
@@ -131,34 +133,73 @@ fn keep(pairs: &mut List<(u32, u64)>, dual: (usize, Fx), left: u64) -> Result<u6
     Ok(left - multiplier)
 }
 
-/// Shares the target out: in order each cut with a dual keeps at most the rest of the target.
-fn shares_of(alloc: Global, target: u64, duals: &[(usize, Fx)]) -> Result<Shares, Memory>
-    requires { All (λ (p : ℕ × Fx). p.0 < 2 ^ 32) duals.now }
-    ensures pairs { IfOk result (λ found. found.pairs ≡ kept_pairs target duals.now) }
-    ensures missing { IfOk result (λ found. found.missing ≡ left_over target duals.now) }
+/// Keeps in order at most the rest of the target for each cut of a list of duals, and gives the rest then.
+fn keep_listed(pairs: &mut List<(u32, u64)>, duals: &[Fx], target: u64) -> Result<u64, Memory>
+    requires { length duals.now ≤ 2 ^ 32 }
+    ensures pairs { OnOk result (pairs.new ≡ pairs.old ++ kept_pairs target (not_zero (dual_in duals.now) 0 (length duals.now))) }
+    ensures left { IfOk result (λ left. left ≡ left_over target (not_zero (dual_in duals.now) 0 (length duals.now))) }
 {
-    let mut pairs = List::from_vec(Vec::with_capacity(alloc, duals.len())?);
-    let mut missing = target;
-    for i in 0..duals.len() {
-        missing = keep(&mut pairs, duals[i], missing)?;
+    let mut left = target;
+    for k in 0..duals.len() {
+        left = keep(pairs, (k, duals[k]), left)?;
     }
-    Ok(Shares { pairs, missing })
+    Ok(left)
 }
 
-/// Shares the target out: in order each of so many cuts, whose duals begin at a row, keeps at most the rest of the target. The
-/// duals of most cuts are 0, and these keep nothing.
+/// Like `keep`, for a row with its dual, where it is one of so many rows from one on.
+fn keep_within(
+    pairs: &mut List<(u32, u64)>,
+    pair: (usize, Fx),
+    from: usize,
+    count: u32,
+    left: u64,
+) -> Result<u64, Memory>
+    ensures pairs { OnOk result (pairs.new ≡ pairs.old ++ kept_pairs left (kept from count pair)) }
+    ensures left { IfOk result (λ tail. tail ≡ left_over left (kept from count pair)) }
+{
+    if from <= pair.0 && pair.0 - from < count as usize {
+        keep(pairs, (pair.0 - from, pair.1), left)
+    } else {
+        Ok(left)
+    }
+}
+
+/// Like `keep_within`, for rows with their duals, one after another.
+fn keep_stored(
+    pairs: &mut List<(u32, u64)>,
+    stored: &[(usize, Fx)],
+    from: usize,
+    count: u32,
+    target: u64,
+) -> Result<u64, Memory>
+    ensures pairs { OnOk result (pairs.new ≡ pairs.old ++ kept_pairs target (all_kept from count stored.now)) }
+    ensures left { IfOk result (λ left. left ≡ left_over target (all_kept from count stored.now)) }
+{
+    let mut left = target;
+    for i in 0..stored.len() {
+        left = keep_within(pairs, stored[i], from, count, left)?;
+    }
+    Ok(left)
+}
+
+/// Shares the target out, in the memory of a list without values: in order each of so many cuts, whose duals begin at a row, keeps
+/// at most the rest of the target. The duals of most cuts are 0, and these keep nothing.
 fn within_target(
-    alloc: Global,
+    over: List<(u32, u64)>,
     target: u64,
     count: u32,
     duals: &Duals,
     from: usize,
 ) -> Result<Shares, Memory>
+    requires { over ≡ [] }
     ensures pairs { IfOk result (λ found. found.pairs ≡ pairs_from 0 (capped target (cut_multipliers (drop from duals.now) 0 count))) }
     ensures missing { IfOk result (λ found. found.missing ≡ missing target (cut_multipliers (drop from duals.now) 0 count)) }
 {
-    let kept = duals.not_zero(alloc, from, count as usize)?;
-    shares_of(alloc, target, kept.as_slice())
+    let mut pairs = over;
+    let part = duals.part(from, count as usize);
+    let left = keep_listed(&mut pairs, part.listed, target)?;
+    let missing = keep_stored(&mut pairs, part.stored, from, count, left)?;
+    Ok(Shares { pairs, missing })
 }
 
 /// The number of the pair with the greatest multiplier, the first of equals.
@@ -187,27 +228,18 @@ fn raise_pair(pairs: &mut List<(u32, u64)>, at: usize, more: u64)
 }
 
 /// Pairs with one of the first cut in front.
-fn with_first(
-    alloc: Global,
-    pairs: &[(u32, u64)],
-    multiplier: u64,
-) -> Result<List<(u32, u64)>, Memory>
-    ensures { IfOk result (λ found. found ≡ (0, multiplier) ∷ pairs.now) }
+fn with_first(pairs: List<(u32, u64)>, multiplier: u64) -> Result<List<(u32, u64)>, Memory>
+    ensures { IfOk result (λ found. found ≡ (0, multiplier) ∷ pairs) }
 {
-    let mut found = List::from_vec(Vec::with_capacity(alloc, pairs.len().saturating_add(1))?);
-    found.push((0, multiplier))?;
-    for pair in pairs {
-        found.push(*pair)?;
+    let mut found = pairs.into_vec();
+    match found.insert(0, (0, multiplier)) {
+        Ok(()) => Ok(List::from_vec(found)),
+        Err(_) => Err(Memory),
     }
-    Ok(found)
 }
 
 /// Adds so much to the first cut, which need not have a pair.
-fn raise_first(
-    alloc: Global,
-    mut pairs: List<(u32, u64)>,
-    more: u64,
-) -> Result<List<(u32, u64)>, Memory>
+fn raise_first(mut pairs: List<(u32, u64)>, more: u64) -> Result<List<(u32, u64)>, Memory>
     requires { multipliers pairs + more < 2 ^ 64 }
     ensures { IfOk result (λ found. found ≡ raised_first pairs more) }
 {
@@ -215,21 +247,17 @@ fn raise_first(
         raise_pair(&mut pairs, 0, more);
         Ok(pairs)
     } else {
-        with_first(alloc, pairs.as_slice(), more)
+        with_first(pairs, more)
     }
 }
 
 /// Adds the shortfall: more than a unit a pair to the first cut, and else to the greatest.
-fn top_up(
-    alloc: Global,
-    mut pairs: List<(u32, u64)>,
-    missing: u64,
-) -> Result<List<(u32, u64)>, Memory>
+fn top_up(mut pairs: List<(u32, u64)>, missing: u64) -> Result<List<(u32, u64)>, Memory>
     requires { multipliers pairs + missing < 2 ^ 64 }
     ensures { IfOk result (λ found. found ≡ topped pairs missing) }
 {
     if missing > pairs.len() as u64 {
-        return raise_first(alloc, pairs, missing);
+        return raise_first(pairs, missing);
     }
     if !pairs.is_empty() {
         let at = greatest_pair(pairs.as_slice());
@@ -238,20 +266,22 @@ fn top_up(
     Ok(pairs)
 }
 
-/// Settles the pairs of a successor with so many cuts, whose duals begin at a row: in order each cut keeps at most the rest of
-/// the target, and the shortfall then goes to the first where it is more than a unit a pair, and else to the greatest.
+/// Settles the pairs of a successor with so many cuts, whose duals begin at a row, in the memory of a list without values: in order
+/// each cut keeps at most the rest of the target, and the shortfall then goes to the first where it is more than a unit a pair, and
+/// else to the greatest.
 fn settled_pairs(
-    alloc: Global,
+    over: List<(u32, u64)>,
     target: u64,
     count: u32,
     duals: &Duals,
     from: usize,
 ) -> Result<List<(u32, u64)>, Memory>
-    requires { 0 < count }
+    requires count { 0 < count }
+    requires over { over ≡ [] }
     ensures { IfOk result (λ found. found ≡ settled_pairs target count (drop from duals.now)) }
 {
-    let Shares { pairs, missing } = within_target(alloc, target, count, duals, from)?;
-    top_up(alloc, pairs, missing)
+    let Shares { pairs, missing } = within_target(over, target, count, duals, from)?;
+    top_up(pairs, missing)
 }
 
 /// Gives the target of a successor: all of its weight.
@@ -277,6 +307,7 @@ fn behind(duals: &Duals, from: usize, count: usize) -> usize
 /// The pairs of successors, the duals of whose cuts follow one another from a row on.
 fn settled_successors(
     alloc: Global,
+    spares: &mut Spares,
     pools: &Pools,
     successors: &[u32],
     weights: &[u32],
@@ -288,11 +319,12 @@ fn settled_successors(
     requires some { All (λ m. 0 < length (pool pools.now.lists m)) successors.now }
     ensures { IfOk result (λ found. found ≡ settled_successors pools.now.lists (successors_of successors.now weights.now) (drop from duals.now)) }
 {
-    let mut found = List::from_vec(Vec::with_capacity(alloc, successors.len())?);
+    let mut found = spares.cuts.take(alloc);
     let mut at = from;
     for i in 0..successors.len() {
         let count = pools.count(successors[i]);
-        found.push(settled_pairs(alloc, target(weights[i]), count, duals, at)?)?;
+        let over = spares.pairs.take(alloc);
+        found.push(settled_pairs(over, target(weights[i]), count, duals, at)?)?;
         at = behind(duals, at, count as usize);
     }
     Ok(found)
@@ -312,6 +344,7 @@ fn used_duals<'a>(answer: &'a Answer, none: &'a Duals) -> &'a Duals
 /// The certificate of duals of a node's rows, then of its successors' cuts.
 fn settled_duals(
     alloc: Global,
+    spares: &mut Spares,
     pools: &Pools,
     node: &Node,
     subproblem: &Subproblem,
@@ -325,15 +358,17 @@ fn settled_duals(
       cuts = settled_successors pools.now.lists (successors_of node.now.successors node.now.successor_weights) (drop (length subproblem.now.rows) duals.now);
     }) }
 {
-    let rows = rows_over(alloc, subproblem.rows.as_slice(), duals, FINER)?;
+    let over = spares.rows.take(alloc);
+    let rows = rows_over(over, subproblem.rows.as_slice(), duals, FINER)?;
     let successors = node.successors.as_slice();
     let weights = node.successor_weights.as_slice();
     let own = subproblem.rows.len();
-    let cuts = settled_successors(alloc, pools, successors, weights, duals, own)?;
+    let cuts = settled_successors(alloc, spares, pools, successors, weights, duals, own)?;
     Ok(Certificate { rows, cuts })
 }
 
-/// Settles an answer at a node over its successors' cuts to a certificate; [`Memory`] where memory was refused.
+/// Settles an answer at a node over its successors' cuts to a certificate, in the memory of those that are done with; [`Memory`]
+/// where memory was refused.
 ///
 /// A multiplier is a dual at scale 2^24, rounded down. The multiplier of a row is clamped to 64 bits, and 0 where the row lacks
 /// the side that it stands on. Each cut of a successor keeps, in order, at most what is left of 2^24 times the successor's
@@ -343,6 +378,7 @@ fn settled_duals(
 /// numbers.
 pub fn certificate_of_duals(
     alloc: Global,
+    spares: &mut Spares,
     problem: &Problem,
     pools: &Pools,
     node: u32,
@@ -358,6 +394,7 @@ pub fn certificate_of_duals(
     let none = Duals::new(alloc, List::new(alloc));
     settled_duals(
         alloc,
+        spares,
         pools,
         own,
         problem.sub(node),

@@ -1,7 +1,7 @@
 -- The duals that are not 0: those of a list, and then those of pairs.
-use Rattle.std.proofs.Common.{◌≡◌, ◌∙◌, ℕ, zero, suc, ◌+◌, ◌-◌, ◌<◌, ◌≤◌, min, Bool, true, false, nat_lt, nat_le, ◌&&◌, List, [], ◌∷◌, ◌++◌, length, take, drop, get_or, if◌then◌else◌, refl, ap, ap₂, sym, arith}
+use Rattle.std.proofs.Common.{◌≡◌, ◌∙◌, ℕ, zero, suc, ◌+◌, ◌-◌, ◌<◌, ◌≤◌, min, Bool, true, false, nat_lt, nat_le, ◌&&◌, List, [], ◌∷◌, ◌++◌, length, take, drop, if◌then◌else◌, refl, ap, ap₂, sym, arith}
 use Rattle.std.proofs.lemmas.Bool.Decides.{nat_tests}
-use Rattle.std.proofs.lemmas.List.{append_assoc, length-take, length-drop, get_or-take, get_or-drop}
+use Rattle.std.proofs.lemmas.List.{length-take, length-drop, get_or-take, get_or-drop}
 use Rattle.hp_solver.specs.declared.fixed.Fx.{Fx}
 use Rattle.hp_solver.specs.Numbers.{zero_fx}
 use Rattle.hp_solver.specs.Duals.{dual_among, joined, RiseWithin, AreDuals, is_zero, with_dual, dual_in, not_zero, kept, all_kept}
@@ -33,18 +33,6 @@ split_not_zero g k (suc a) b =
     ap (not_zero g k) e
     ∙ ap (with_dual k (g k)) (split_not_zero g (suc k) a b ∙ ap (λ (j : ℕ). not_zero g (suc k) a ++ not_zero g j b) f)
     ∙ with_dual_append k (g k) (not_zero g (suc k) a) (not_zero g (k + suc a) b)
-
--- one dual more
-pub one_listed : (found new : List (ℕ × Fx)) (duals : List Fx) (k : ℕ) (f : Fx) (whole : List (ℕ × Fx)) → k < length duals → f ≡ get_or duals k zero_fx → new ≡ found ++ with_dual k f []
-    → found ++ not_zero (dual_in duals) k (length duals - k) ≡ whole → new ++ not_zero (dual_in duals) (k + 1) (length duals - (k + 1)) ≡ whole
-one_listed found new duals k f whole h is e w =
-    let next : k + 1 ≡ suc k = omega arith in
-    let more : length duals - k ≡ suc (length duals - (k + 1)) = omega (arith, h) in
-    let tail : List (ℕ × Fx) = not_zero (dual_in duals) (suc k) (length duals - (k + 1)) in
-    ap₂ (λ (xs : List (ℕ × Fx)) (j : ℕ). xs ++ not_zero (dual_in duals) j (length duals - (k + 1))) e next
-    ∙ append_assoc found (with_dual k f []) tail
-    ∙ ap (λ (xs : List (ℕ × Fx)). found ++ xs) (sym (with_dual_append k f [] tail) ∙ ap (λ (x : Fx). with_dual k x tail) is)
-    ∙ sym (ap (λ (m : ℕ). found ++ not_zero (dual_in duals) k m) more) ∙ w
 
 -- the dual of a row so many behind another
 abbrev dual_after : List (ℕ × Fx) → ℕ → ℕ → Fx

@@ -1,7 +1,7 @@
 // Duals of rows, most of which are 0.
-ghost use Rattle.std.specs.Prelude.{◌≡◌, ◌+◌, ◌-◌, ◌<◌, ◌≤◌, [], ◌++◌, length, take, drop, get_or, replicate, slice_get, slice_set, true, is_ok, if◌then◌else◌, IfOk, OnOk};
+ghost use Rattle.std.specs.Prelude.{◌≡◌, ◌+◌, ◌-◌, ◌<◌, ◌≤◌, [], ◌++◌, length, take, drop, get_or, replicate, slice_get, slice_set, true, is_ok, if◌then◌else◌, IfOk};
 ghost use Rattle.hp_solver.specs.Numbers.{zero_fx};
-ghost use Rattle.hp_solver.specs.Duals.{dual_among, is_zero, with_dual, dual_in, not_zero, with_pair, place_of, is_of, kept, all_kept};
+ghost use Rattle.hp_solver.specs.Duals.{dual_among, is_zero, dual_in, not_zero, with_pair, place_of, is_of, all_kept};
 
 use crate::fixed::Fx;
 use hp_num::{List, Memory};
@@ -110,54 +110,14 @@ fn part(items: &[Fx], from: usize, count: usize) -> &[Fx]
     }
 }
 
-// Puts a dual with its number behind others, unless it is 0.
-fn push_dual(found: &mut List<(usize, Fx)>, number: usize, dual: Fx) -> Result<(), Memory>
-    ensures { OnOk result (found.new ≡ found.old ++ with_dual number dual []) }
-{
-    if !is_zero(dual) {
-        found.push((number, dual))?;
-    }
-    Ok(())
-}
-
-// Puts those of some duals that are not 0, with their numbers, behind others.
-fn push_listed(found: &mut List<(usize, Fx)>, duals: &[Fx]) -> Result<(), Memory>
-    ensures { OnOk result (found.new ≡ found.old ++ not_zero (dual_in duals.now) 0 (length duals.now)) }
-{
-    for k in 0..duals.len() {
-        push_dual(found, k, duals[k])?;
-    }
-    Ok(())
-}
-
-// Puts a pair of one of so many rows behind others, its row numbered from one on, unless its dual is 0.
-fn push_kept(
-    found: &mut List<(usize, Fx)>,
-    pair: (usize, Fx),
-    from: usize,
-    count: usize,
-) -> Result<(), Memory>
-    ensures { OnOk result (found.new ≡ found.old ++ kept from count pair) }
-{
-    if from <= pair.0 && pair.0 - from < count {
-        push_dual(found, pair.0 - from, pair.1)?;
-    }
-    Ok(())
-}
-
-// Like `push_kept`, for each of some pairs.
-fn push_all_kept(
-    found: &mut List<(usize, Fx)>,
-    pairs: &[(usize, Fx)],
-    from: usize,
-    count: usize,
-) -> Result<(), Memory>
-    ensures { OnOk result (found.new ≡ found.old ++ all_kept from count pairs.now) }
-{
-    for i in 0..pairs.len() {
-        push_kept(found, pairs[i], from, count)?;
-    }
-    Ok(())
+/// The duals of some rows that follow one another.
+#[derive(Clone, Copy)]
+pub struct PartOfDuals<'a> {
+    /// The duals of the first of these rows.
+    pub listed: &'a [Fx],
+    /// Rows, which rise, with their duals. Those of these rows whose duals are not listed are among them, unless the dual is 0;
+    /// other rows may be among them too.
+    pub stored: &'a [(usize, Fx)],
 }
 
 impl Duals {
@@ -228,20 +188,17 @@ impl Duals {
         }
     }
 
-    /// The duals, other than 0, of so many rows from one on, each with the number of its row, counted from that one.
-    /// [`Memory`] where memory was refused.
-    pub fn not_zero(
-        &self,
-        alloc: Global,
-        from: usize,
-        count: usize,
-    ) -> Result<List<(usize, Fx)>, Memory>
-        ensures { IfOk result (λ found. found ≡ not_zero (dual_in (drop from self.now)) 0 count) }
+    /// The duals of so many rows from one on. The rows of those that are listed count from that one, the rows of those that are
+    /// stored from the first of all.
+    pub fn part(&self, from: usize, count: usize) -> PartOfDuals<'_>
+        ensures few { length result.listed.now ≤ count }
+        ensures value { not_zero (dual_in result.listed.now) 0 (length result.listed.now) ++ all_kept from count result.stored.now
+            ≡ not_zero (dual_in (drop from self.now)) 0 count }
     {
-        let mut found = List::new(alloc);
-        push_listed(&mut found, part(self.first.as_slice(), from, count))?;
-        push_all_kept(&mut found, self.others.as_slice(), from, count)?;
-        Ok(found)
+        PartOfDuals {
+            listed: part(self.first.as_slice(), from, count),
+            stored: self.others.as_slice(),
+        }
     }
 
     /// A list of all. [`Memory`] where memory was refused.

@@ -10,7 +10,7 @@ pub mod solver;
 pub mod stage_lp;
 pub mod stand_ins;
 
-pub use duals::Duals;
+pub use duals::{Duals, PartOfDuals};
 pub use fixed::Fx;
 pub use packed::{
     ActiveCuts, CoarseCuts, CutList, Out, PackedCuts, PackedView, SlopeEnds, slope_at,

@@ -118,7 +118,7 @@ pub struct ActiveCuts<'a> {
     pub highs: &'a [i64],
     /// The cuts at these places, side by side in their order.
     pub cuts: CutList<'a>,
-    /// The same cuts in fewer binary digits, if the pool keeps these too.
+    /// The same cuts in fewer binary digits, none where the pool has none of these.
     pub coarse: Option<CoarseCuts<'a>>,
 }
 

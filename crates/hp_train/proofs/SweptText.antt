@@ -15,6 +15,7 @@ use Rattle.hp_cut.specs.AtNodes.{PoolsFit}
 use Rattle.hp_cut.specs.declared.entry.EntryStep.{EntryStep}
 use Rattle.hp_cut_making.specs.declared.fault.CertFault.{CertFault}
 use Rattle.hp_cut_making.specs.declared.fault.CertFault.TheVariants as faults
+use Rattle.hp_dual.proofs.Faultless.{right-range_fault}
 use Rattle.hp_solver.specs.Solving.{Solving}
 use Rattle.hp_sampler.specs.declared.steps.PathStep.{PathStep}
 use Rattle.hp_sampler.specs.Drawn.{IsInRange}
@@ -72,7 +73,8 @@ module _ {Start Chain : Type 0} (v : Solving Start Chain) (p : Validated) (valid
       → certified v p before.pools k m state ≡ Ok found → range_of before.pools (node_at (problem_of p) m) found.list ≡ None → StepMade p k most before m (with_made before m (found, cut_of before.pools (node_at (problem_of p) m) found.list))
   unfolding step_added
   made most before m state found known fit small few is inside =
-      let none = settled_list v p before.pools k m state found validated known fit is ∙ ap (λ (o : Option ℕ). option_map faults.Range o) inside in
+      let right = settled_list v p before.pools k m state found validated known fit is in
+      let none = right-range_fault before.pools (node_at (problem_of p) m) found.list right ∙ ap (λ (o : Option ℕ). option_map faults.Range o) inside in
       record {
         list = found.list;
         added = accepted p k before.pools (record { node = m; list = found.list }) _ none;

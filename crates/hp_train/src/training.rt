@@ -100,7 +100,9 @@ pub fn iteration_body<R: Threads + Sync, V: Solver>(
     let problem = planner.problem();
     let _ = problem.parts();
     let entries = iteration(rt, work, planner, pools, draw)?;
-    Ok(body_of(work.alloc(), problem, entries.as_slice())?)
+    let body = body_of(work.alloc(), problem, entries.as_slice())?;
+    work.spares.give_back(entries);
+    Ok(body)
 }
 
 /// Runs an iteration: adds its cuts, its bound and its counts to `loaded`, and gives the bytes behind the commit byte of its record.
@@ -142,6 +144,7 @@ fn iterate<R: Threads + Sync, V: Solver>(
     let body = body_of(work.alloc(), problem, entries.as_slice())?;
     loaded.bounds.push(loaded.pools.bound(problem))?;
     loaded.unanswered += unanswered(entries.as_slice());
+    work.spares.give_back(entries);
     Ok(body)
 }
 

@@ -15,7 +15,6 @@ use hp_lp::{Planner, WarmStarts, Workspace};
 use hp_outside::{Sink, Source, StdSink, StdSource};
 use hp_parts::MOST_PATHS;
 use hp_problem::Problem;
-use hp_record::Spares;
 use hp_sof::read_problem;
 use hp_solver::Solver;
 use hp_warm_simplex::WarmSimplex;
@@ -65,7 +64,6 @@ fn held_at_first<V: Solver>(task: Task) -> Result<Held<V>, Ending>
     let found = gathered_base(task.alloc, task.problem, pools)?;
     Ok(Held {
         found,
-        spares: Spares::new(task.alloc),
         work: Workspace::new(task.alloc),
         told: None,
     })

@@ -46,7 +46,7 @@ fn add<V: Solver>(
     }
     match add_payload(
         task.alloc,
-        &mut held.spares,
+        &mut held.work.spares,
         task.problem,
         task.batch,
         payload,

@@ -2,7 +2,6 @@
 use hp_load::Gathered;
 use hp_lp::Workspace;
 use hp_problem::Problem;
-use hp_record::Spares;
 use hp_solver::Solver;
 use std::alloc::Global;
 
@@ -19,7 +18,6 @@ pub(crate) struct Task<'a> {
 #[derive(Drop)]
 pub(crate) struct Held<V: Solver> {
     pub(crate) found: Gathered,
-    pub(crate) spares: Spares,
     pub(crate) work: Workspace<V>,
     /// The payloads of records as they stand joined, each behind the number of its bytes; none where no order asks for them.
     pub(crate) told: Option<Vec<u8>>,

@@ -4,11 +4,9 @@ ghost use Rattle.hp_record.specs.Spelling.{spell};
 ghost use Rattle.hp_record.specs.Shape.{Writable};
 
 use crate::problems::TWO_ROWS;
-use hp_cut::{Entry, EntryStep};
+use hp_cut::{Entry, EntryStep, Spares};
 use hp_problem::Problem;
-use hp_record::{
-    EntryFault, Spares, decode, decode_batch, decode_batch_with, encode, encode_batch,
-};
+use hp_record::{EntryFault, decode, decode_batch, decode_batch_with, encode, encode_batch};
 use hp_sof::read_problem;
 use std::alloc::Global;
 use std::process::Abort;

@@ -16,13 +16,13 @@ go_back-requires-clause-short g c κs within = short-path c.args.planner.now.pro
 
 pub returns-in-Ok-clause-value : goal.returns-in-Ok-clause-value
 returns-in-Ok-clause-value g c =
-    swept-by (g.V.Solver.does c.args.planner.now.solver.now) c.args.planner.now.problem.now c.args.pass.now.iteration c.args.pools.now.lists c.args.pass.now.path.now c.args.pass.now.trajectory.now.states c.args.pass.now.trajectory.now.states c.new.result c.args.pass.now.trajectory.now.unanswered refl c.new.ensures
+    swept-by (g.V.Solver.does c.args.planner.now.solver.now) c.args.planner.now.problem.now c.args.pass.now.iteration c.args.pools.now.lists c.args.pass.now.path.now c.args.pass.now.trajectory.now.states c.args.pass.now.trajectory.now.states c.take.result c.args.pass.now.trajectory.now.unanswered refl c.take.ensures
     ∙ c.in-Ok.ensures.value
 
 pub returns-in-Err-clause-value : goal.returns-in-Err-clause-value
 returns-in-Err-clause-value g c =
     subst (λ (r : Result Swept PlanFault). Stops c.in-Err.fault r)
-    (sym (swept-by (g.V.Solver.does c.args.planner.now.solver.now) c.args.planner.now.problem.now c.args.pass.now.iteration c.args.pools.now.lists c.args.pass.now.path.now c.args.pass.now.trajectory.now.states c.args.pass.now.trajectory.now.states c.new.result c.args.pass.now.trajectory.now.unanswered refl c.new.ensures))
+    (sym (swept-by (g.V.Solver.does c.args.planner.now.solver.now) c.args.planner.now.problem.now c.args.pass.now.iteration c.args.pools.now.lists c.args.pass.now.path.now c.args.pass.now.trajectory.now.states c.args.pass.now.trajectory.now.states c.take.result c.args.pass.now.trajectory.now.unanswered refl c.take.ensures))
     c.in-Err.ensures.value
 
 pub returns-in-Err-clause-infeasible : goal.returns-in-Err-clause-infeasible

@@ -1,18 +1,18 @@
 use Rattle.std.proofs.Common.{◌≡◌, true, List, sym, subst}
 use Rattle.hp_problem.specs.Validated.{Validated, is_validated}
 use Rattle.hp_theory.specs.declared.cut.Certificate.{Certificate}
+use Rattle.hp_theory.specs.Certificates.{Right}
 use Rattle.hp_theory.specs.Problem.{node_at}
 use Rattle.hp_theory.specs.View.{problem_of}
-use Rattle.hp_cut_making.specs.Acceptance.{fault_of, range_fault}
 use Rattle.hp_dual.proofs.Fitting.{fit_for-fit}
 use Rattle.hp_backward.proofs.Cuts.{settled_list}
 use Rattle.hp_backward.proofs.steps_back.made_at.Goals as goal
 
-pub cut_of-requires-clause-settled : goal.cut_of-requires-clause-settled
-cut_of-requires-clause-settled g c = λ κs outlives.
+pub cut_of-requires-clause-right : goal.cut_of-requires-clause-right
+cut_of-requires-clause-right g c = λ κs outlives.
     let here = c.args.here.now in
     let validated = subst (λ (p : Validated). is_validated p ≡ true) c.problem.ensures c.parts.ensures.validated in
-    subst (λ (l : List Certificate). fault_of here.pools.now.lists (node_at (problem_of here.planner.now.problem.now) here.node) l ≡ range_fault here.pools.now.lists (node_at (problem_of here.planner.now.problem.now) here.node) l) (sym c.as_slice.ensures)
+    subst (λ (l : List Certificate). Right here.pools.now.lists (node_at (problem_of here.planner.now.problem.now) here.node) l) (sym c.as_slice.ensures)
     (settled_list (g.V.Solver.does here.planner.now.solver.now) here.planner.now.problem.now here.pools.now.lists here.iteration here.node here.state.now c.in_ok-found.found validated c.requires.known c.requires.fit c.in_ok-found.ensures.value)
 
 pub cut_of-requires-clause-fit : goal.cut_of-requires-clause-fit

@@ -10,6 +10,6 @@ top_up-requires c =
 
 pub returns : goal.returns
 returns c =
-    let shared = all_shared c.args.target c.args.count (drop c.args.from c.args.duals.now) c.in_ok-pairs.field-0.pairs c.in_ok-pairs.field-0.missing c.in_ok-pairs.ensures.pairs c.in_ok-pairs.ensures.missing c.requires in
+    let shared = all_shared c.args.target c.args.count (drop c.args.from c.args.duals.now) c.in_ok-pairs.field-0.pairs c.in_ok-pairs.field-0.missing c.in_ok-pairs.ensures.pairs c.in_ok-pairs.ensures.missing c.requires.count in
     if_ok (λ (found : List (ℕ × ℕ)). found ≡ topped c.in_ok-pairs.field-0.pairs c.in_ok-pairs.field-0.missing) (λ (found : List (ℕ × ℕ)). found ≡ settled_pairs c.args.target c.args.count (drop c.args.from c.args.duals.now)) c.top_up.result
     (λ found is. is ∙ shared) c.top_up.ensures

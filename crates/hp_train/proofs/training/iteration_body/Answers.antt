@@ -27,4 +27,4 @@ returns-clause-body g c =
     let p = c.args.planner.now.problem.now in
     let v = g.V.Solver.does c.args.planner.now.solver.now in
     let w = is_written v p c.args.pools.now.lists c.args.draw.seed c.args.draw.batch c.args.draw.iteration (seen_stepped c.iteration.new.pools.lists c.in_ok-entries.entries) (subst (λ (q : Validated). is_validated q ≡ true) c.problem-problem.ensures c.parts.ensures.validated) c.requires.fit c.requires.most c.requires.first c.requires.last c.requires.cuts c.requires.room c.in_ok-entries.ensures.value in
-    (spell c.as_slice.result.now, omega (arith, w.short, ap (λ (es : List Entry). length (spell es)) c.as_slice.ensures), c.in_ok-body_of.ensures)
+    (spell c.as_slice.result.now, omega (arith, w.short, ap (λ (es : List Entry). length (spell es)) c.as_slice.ensures), c.in_ok-body.ensures)

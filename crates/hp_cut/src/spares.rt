@@ -1,22 +1,23 @@
 // The memory of entries that are done with.
-use hp_cut::{Certificate, Entry, EntryStep};
+use crate::entry::{Entry, EntryStep};
 use hp_num::{List, Spare};
+use hp_theory::Certificate;
 use std::alloc::Global;
 
-/// The memory of entries that are done with, which serves the entries of later payloads. No result depends on what is
-/// kept.
+/// The memory of entries that are done with, which serves later entries, those of payloads that are read and those of iterations. No
+/// result depends on what is kept.
 #[derive(Drop)]
 pub struct Spares {
     /// Lists of the multipliers of rows.
-    pub(crate) rows: Spare<i64>,
+    pub rows: Spare<i64>,
     /// Lists of the places of cuts and their multipliers.
-    pub(crate) pairs: Spare<(u32, u64)>,
+    pub pairs: Spare<(u32, u64)>,
     /// Lists of such lists, one per successor.
-    pub(crate) cuts: Spare<List<(u32, u64)>>,
+    pub cuts: Spare<List<(u32, u64)>>,
     /// Lists of certificates, one per realization.
-    pub(crate) certificates: Spare<Certificate>,
+    pub certificates: Spare<Certificate>,
     /// Lists of steps.
-    pub(crate) steps: Spare<EntryStep>,
+    pub steps: Spare<EntryStep>,
 }
 
 impl Spares {
