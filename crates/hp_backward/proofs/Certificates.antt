@@ -1,7 +1,7 @@
 -- Realizations and their answers, one after another: in parts, and facts about the result.
-use Rattle.std.proofs.Common.{◌≡◌, ℕ, suc, ◌+◌, ◌/◌, ℤ, List, [], ◌∷◌, ◌++◌, length, map, Result, Ok, Err, refl, ap, ap₂, sym, subst, ◌∙◌, append_assoc, arith}
-use Rattle.std.proofs.lemmas.List.{append-nil, take-append-drop, length-map}
-use Rattle.hp_num.specs.Steps.{◌>>=◌}
+use Rattle.std.proofs.Common.{◌≡◌, ℕ, suc, ◌+◌, ℤ, List, [], ◌∷◌, ◌++◌, length, map, IfOk, Result, Ok, Err, refl, ap, ap₂, sym, subst, ◌∙◌, append_assoc, arith}
+use Rattle.std.proofs.lemmas.List.{append-nil, length-append, length-map}
+use Rattle.hp_num.specs.Steps.{◌>>=◌, GivesOr}
 use Rattle.hp_theory.specs.declared.cut.Cut.{Cut}
 use Rattle.hp_theory.specs.declared.cut.Certificate.{Certificate}
 use Rattle.hp_theory.specs.Problem.{Node, node_at}
@@ -15,6 +15,7 @@ use Rattle.hp_settle.specs.declared.classifying.Classified.TheVariants as classi
 use Rattle.hp_settle.specs.declared.classifying.Infeasibility.{Infeasibility}
 use Rattle.hp_settle.specs.Classifying.{classify_of}
 use Rattle.hp_settle.specs.Settling.{settled_of}
+use Rattle.hp_settle.specs.Faults.{Stops}
 use Rattle.hp_settle.specs.Farkas.{NoDecision}
 use Rattle.hp_settle.proofs.ClassifiedInfeasible.{classified_infeasible}
 use Rattle.hp_solver.specs.Solving.{Solving}
@@ -23,7 +24,8 @@ use Rattle.hp_lp.specs.Chained.{chain_answers}
 use Rattle.hp_backward.specs.declared.certified.Certified.{Certified}
 use Rattle.hp_settle.specs.declared.plan_fault.PlanFault.{PlanFault}
 use Rattle.hp_settle.specs.declared.plan_fault.PlanFault.TheVariants.{Infeasible}
-use Rattle.hp_backward.specs.Certifying.{node_values_at, first_half, second_half, answers_to, both_certified, in_order, nothing_certified, with_classified, certify, certify_all, in_chain, certified}
+use Rattle.hp_backward.specs.Certifying.{first_half, second_half, answers_at, answers_to, both_certified, certified, certified_in_order, certify, certify_all, in_chain, in_places, in_turn, nothing_certified, order_at, values_of, with_classified}
+use Rattle.hp_backward.proofs.Placed.{halves-values_of, length-values_of}
 
 same_ok : {A E : Type 0} (x y : A) → ◌≡◌ {A = Result A E} (Ok x) (Ok y) → x ≡ y
 same_ok x y e = cc
@@ -126,14 +128,62 @@ module _ (pools : List (List Cut)) (n : Node) (k m : ℕ) (state : List ℤ) whe
           let this : Infeasibility = record { run = k; node = m; values = v; state = state; rows = rows } in
           subst (λ (x : Infeasibility). (x.node ≡ m) × NoDecision n x.values x.state) (same_infeasible this d (same_err (Infeasible this) (Infeasible d) w)) (refl, classified_infeasible n v state a rows e)
 
--- a node's realizations in their two halves
+-- a node's realizations in the two halves of their order
 pub in_halves : {Start Chain : Type 0} (v : Solving Start Chain) (p : Validated) (pools : List (List Cut)) (k m : ℕ) (state : List ℤ)
-    → certified v p pools k m state
-    ≡ in_order (in_chain v p pools k m state (first_half (node_values_at p.parts m))) (in_chain v p pools k m state (second_half (node_values_at p.parts m)))
-unfolding certified
+    → certified_in_order v p pools k m state
+    ≡ in_turn (in_chain v p pools k m state (values_of p.parts m (first_half (order_at p.parts m)))) (in_chain v p pools k m state (values_of p.parts m (second_half (order_at p.parts m))))
+unfolding certified_in_order
 in_halves v p pools k m state =
-    let vs : List (List ℤ) = first_half (node_values_at p.parts m) in
-    let ws : List (List ℤ) = second_half (node_values_at p.parts m) in
+    let order : List ℕ = order_at p.parts m in
+    let vs : List (List ℤ) = values_of p.parts m (first_half order) in
+    let ws : List (List ℤ) = values_of p.parts m (second_half order) in
     let n : Node = node_at (problem_of p) m in
-    ap (λ (all : List (List ℤ)). certify_all (certify pools n k m state) nothing_certified all (answers_to v p pools m state vs ++ answers_to v p pools m state ws)) (sym (take-append-drop (length (node_values_at p.parts m) / 2) (node_values_at p.parts m)))
+    ap (λ (all : List (List ℤ)). certify_all (certify pools n k m state) nothing_certified all (answers_to v p pools m state vs ++ answers_to v p pools m state ws)) (sym (halves-values_of p.parts m order))
     ∙ all-halves pools n k m state vs ws (answers_to v p pools m state vs) (answers_to v p pools m state ws) (counted-answers_to v p pools m state vs)
+
+-- as many answers as realizations
+pub counted_answers_at : {Start Chain : Type 0} (v : Solving Start Chain) (p : Validated) (pools : List (List Cut)) (m : ℕ) (state : List ℤ) → length (answers_at v p pools m state) ≡ length (order_at p.parts m)
+counted_answers_at v p pools m state =
+    let order : List ℕ = order_at p.parts m in
+    let vs : List (List ℤ) = values_of p.parts m (first_half order) in
+    let ws : List (List ℤ) = values_of p.parts m (second_half order) in
+    let whole : length vs + length ws ≡ length order = sym (length-append vs ws) ∙ ap (λ (all : List (List ℤ)). length all) (halves-values_of p.parts m order) ∙ length-values_of p.parts m order in
+    omega (arith, length-append (answers_to v p pools m state vs) (answers_to v p pools m state ws), counted-answers_to v p pools m state vs, counted-answers_to v p pools m state ws, whole)
+
+-- the certificates of a node in the order in which they were solved
+pub record InOrder {Start Chain : Type 0} (v : Solving Start Chain) (p : Validated) (pools : List (List Cut)) (k m : ℕ) (state : List ℤ) (found : Certified) : Type 0 where
+  pub is : certify_all (certify pools (node_at (problem_of p) m) k m state) nothing_certified (values_of p.parts m (order_at p.parts m)) (answers_at v p pools m state) ≡ Ok found
+  pub settled : found.list ≡ map (settled_of pools (node_at (problem_of p) m)) (answers_at v p pools m state)
+  pub count : length found.list ≡ length (order_at p.parts m)
+
+pub each_in_order : {Start Chain : Type 0} (v : Solving Start Chain) (p : Validated) (pools : List (List Cut)) (k m : ℕ) (state : List ℤ) (found : Certified) → certified_in_order v p pools k m state ≡ Ok found → InOrder v p pools k m state found
+unfolding certified_in_order
+each_in_order v p pools k m state found is =
+    let n : Node = node_at (problem_of p) m in
+    let values : List (List ℤ) = values_of p.parts m (order_at p.parts m) in
+    let xs : List Answer = answers_at v p pools m state in
+    let list : found.list ≡ map (settled_of pools n) xs = listed pools n k m state nothing_certified values xs found (counted_answers_at v p pools m state ∙ sym (length-values_of p.parts m (order_at p.parts m))) is in
+    record {
+      is = is;
+      settled = list;
+      count = ap (λ (cs : List Certificate). length cs) list ∙ length-map xs (settled_of pools n) ∙ counted_answers_at v p pools m state;
+    }
+
+pub counted_in_order : {Start Chain : Type 0} (v : Solving Start Chain) (p : Validated) (pools : List (List Cut)) (k m : ℕ) (state : List ℤ) (r : Result Certified PlanFault) → GivesOr Stops (λ found. found) r (certified_in_order v p pools k m state)
+    → IfOk r (λ found. length found.list ≡ length (order_at p.parts m))
+counted_in_order v p pools k m state (Ok found) gives = (each_in_order v p pools k m state found gives).count
+counted_in_order v p pools k m state (Err fault) gives = tt
+
+-- and put back to the places of their realizations
+pub record InPlaces {Start Chain : Type 0} (v : Solving Start Chain) (p : Validated) (pools : List (List Cut)) (k m : ℕ) (state : List ℤ) (found : Certified) : Type 0 where
+  pub solved : Certified
+  pub order : InOrder v p pools k m state solved
+  pub placed_is : found ≡ in_places (order_at p.parts m) solved
+
+pub each_in_place : {Start Chain : Type 0} (v : Solving Start Chain) (p : Validated) (pools : List (List Cut)) (k m : ℕ) (state : List ℤ) (found : Certified) → certified v p pools k m state ≡ Ok found → InPlaces v p pools k m state found
+unfolding certified
+each_in_place v p pools k m state found is = by (certified_in_order v p pools k m state) refl is
+  where
+    by : (r : Result Certified PlanFault) → certified_in_order v p pools k m state ≡ r → (r >>= λ f. Ok (in_places (order_at p.parts m) f)) ≡ Ok found → InPlaces v p pools k m state found
+    by (Err d) e w = absurd (no_err found d (sym w))
+    by (Ok f) e w = record { solved = f; order = each_in_order v p pools k m state f e; placed_is = sym (same_ok (in_places (order_at p.parts m) f) found w) }

@@ -1,13 +1,13 @@
 -- The cut of settled certificates, and pools with it.
-use Rattle.std.proofs.Common.{◌≡◌, ℕ, zero, suc, Ok, ◌+◌, ◌-◌, ◌/◌, ◌<◌, ℤ, true, List, [], ◌∷◌, ◌++◌, length, map, take, All, refl, ap, sym, subst, ◌∙◌, arith}
+use Rattle.std.proofs.Common.{◌≡◌, ℕ, zero, suc, Ok, ◌-◌, ◌<◌, ℤ, true, List, [], ◌∷◌, ◌++◌, length, take, All, refl, ap, sym, subst, ◌∙◌, arith}
 use Rattle.std.proofs.Common.{length-append}
 use Rattle.std.proofs.Math.Seq.{take-append_seam}
-use Rattle.std.proofs.lemmas.List.{length-set, take-append-drop}
+use Rattle.std.proofs.lemmas.List.{length-set}
 use Rattle.std.proofs.lemmas.List.Elements.{All-push}
 use Rattle.hp_problem.specs.Validated.{Validated, is_validated}
 use Rattle.hp_theory.specs.declared.cut.Cut.{Cut}
 use Rattle.hp_theory.specs.declared.cut.Certificate.{Certificate}
-use Rattle.hp_theory.specs.Certificates.{Right}
+use Rattle.hp_theory.specs.Certificates.{Right, RightAt}
 use Rattle.hp_theory.specs.Problem.{Node, Problem, node_at}
 use Rattle.hp_theory.specs.View.{problem_of}
 use Rattle.hp_theory.specs.Fit.{CutFits, Fit}
@@ -15,15 +15,16 @@ use Rattle.hp_theory.specs.Pools.{pool, push}
 use Rattle.hp_theory.proofs.Appending.{push_at, kept_some}
 use Rattle.hp_cut.specs.AtNodes.{PoolsFit}
 use Rattle.hp_solver.specs.declared.programs.Answer.{Answer}
-use Rattle.hp_settle.specs.Settling.{settled_of}
 use Rattle.hp_settle.proofs.SettledNode.{have_cuts}
 use Rattle.hp_settle.proofs.SettledRight.{settled_list_right}
 use Rattle.hp_solver.specs.Solving.{Solving}
 use Rattle.hp_backward.specs.declared.certified.Certified.{Certified}
-use Rattle.hp_backward.specs.Certifying.{node_values_at, first_half, second_half, answers_to, answers_at, nothing_certified, certified}
+use Rattle.hp_lp.specs.Orders.{node_values_at}
+use Rattle.hp_backward.specs.Certifying.{answers_at, certified}
 use Rattle.hp_backward.specs.Sweeping.{popped}
-use Rattle.hp_backward.proofs.Certificates.{counted-answers_to, listed}
+use Rattle.hp_backward.proofs.Certificates.{InPlaces, counted_answers_at, each_in_place}
 use Rattle.hp_backward.proofs.NodeValues.{values_here}
+use Rattle.hp_backward.proofs.Placed.{all_in_places, length-in_places, length-order_at}
 
 -- with a cut that fits
 pub fit_push : (p : Problem) (count : ℕ) (pools : List (List Cut)) (m : ℕ) (c : Cut) → Fit p count pools → CutFits (node_at p m) c → Fit p count (push pools m c)
@@ -44,22 +45,19 @@ popped-push [] m c = refl
 popped-push (cs ∷ tail) zero c = ap (λ (ds : List Cut). ds ∷ tail) (last_off cs c)
 popped-push (cs ∷ tail) (suc m) c = ap (λ (more : List (List Cut)). cs ∷ more) (popped-push tail m c)
 
--- as many answers as realizations
-counted_answers_at : {Start Chain : Type 0} (v : Solving Start Chain) (p : Validated) (pools : List (List Cut)) (m : ℕ) (state : List ℤ) → length (answers_at v p pools m state) ≡ length (node_values_at p.parts m)
-counted_answers_at v p pools m state =
-    let vs : List (List ℤ) = node_values_at p.parts m in
-    let xs : List Answer = answers_to v p pools m state (first_half vs) in
-    let ys : List Answer = answers_to v p pools m state (second_half vs) in
-    let whole : length (first_half vs) + length (second_half vs) ≡ length vs = sym (length-append (first_half vs) (second_half vs)) ∙ ap (λ (all : List (List ℤ)). length all) (take-append-drop (length vs / 2) vs) in
-    omega (arith, length-append xs ys, counted-answers_to v p pools m state (first_half vs), counted-answers_to v p pools m state (second_half vs), whole)
-
 -- settled certificates are right
 pub settled_list : {Start Chain : Type 0} (v : Solving Start Chain) (p : Validated) (pools : List (List Cut)) (k m : ℕ) (state : List ℤ) (found : Certified) → is_validated p ≡ true → m < length p.parts.nodes → PoolsFit p pools
     → certified v p pools k m state ≡ Ok found → Right pools (node_at (problem_of p) m) found.list
-unfolding certified
 settled_list v p pools k m state found e h fit is =
     let n : Node = node_at (problem_of p) m in
     let xs : List Answer = answers_at v p pools m state in
-    let count : length xs ≡ length (node_values_at p.parts m) = counted_answers_at v p pools m state in
-    let list : found.list ≡ map (settled_of pools n) xs = listed pools n k m state nothing_certified (node_values_at p.parts m) xs found count is in
-    subst (λ (l : List Certificate). Right pools n l) (sym list) (settled_list_right pools n xs (have_cuts p m pools e h fit) (count ∙ (values_here p m e h).count))
+    let values : List (List ℤ) = node_values_at p.parts m in
+    let at : InPlaces v p pools k m state found = each_in_place v p pools k m state found is in
+    let solved : List Certificate = at.solved.list in
+    let realizations = (values_here p m e h).count in
+    let right : Right pools n solved = subst (λ (l : List Certificate). Right pools n l) (sym at.order.settled) (settled_list_right pools n xs (have_cuts p m pools e h fit) (counted_answers_at v p pools m state ∙ length-order_at p.parts m ∙ realizations)) in
+    subst (λ (f : Certified). Right pools n f.list) (sym at.placed_is)
+    (record {
+      count = length-in_places values solved at.order.count ∙ realizations;
+      each = all_in_places values solved at.order.count (RightAt pools n) right.each;
+    })

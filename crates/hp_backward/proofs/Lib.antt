@@ -5,3 +5,4 @@ pub mod Cuts
 pub mod StepsBack
 pub mod PathNodes
 pub mod Grown
+pub mod Placed

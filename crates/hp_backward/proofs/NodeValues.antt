@@ -15,7 +15,7 @@ use Rattle.hp_theory.specs.Problem.{Realization, Node, node_at}
 use Rattle.hp_theory.specs.View.{problem_of, realizations_of}
 use Rattle.hp_theory.proofs.Views.{realizations-node_of}
 use Rattle.hp_theory.proofs.ValidatedParts.{parts_of_node, weighty}
-use Rattle.hp_backward.specs.Certifying.{node_values_at}
+use Rattle.hp_lp.specs.Orders.{node_values_at}
 
 -- the values of the node m: one list per realization, at most 100, each of the node's random variables
 pub record NodeValues (p : Validated) (m : ℕ) (values : List (List ℤ)) : Type 0 where

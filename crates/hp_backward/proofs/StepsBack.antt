@@ -18,7 +18,7 @@ use Rattle.hp_backward.specs.declared.certified.Certified.{Certified}
 use Rattle.hp_settle.specs.declared.plan_fault.PlanFault.{PlanFault}
 use Rattle.hp_settle.specs.declared.plan_fault.PlanFault.TheVariants.{Infeasible, Range, DiskFault, Memory}
 use Rattle.hp_settle.specs.Faults.{IsInfeasible, Stops}
-use Rattle.hp_backward.specs.Certifying.{node_values_at, answers_at, nothing_certified, certified}
+use Rattle.hp_backward.specs.Certifying.{answers_at, certified, certified_in_order, in_places, nothing_certified, order_at, values_of}
 use Rattle.hp_backward.specs.Sweeping.{Swept, within_range, made_at, with_made, step_back, backwards, swept, popped, taken_back}
 use Rattle.hp_backward.proofs.Certificates.{infeasible_there}
 use Rattle.hp_backward.proofs.Cuts.{popped-push}
@@ -78,11 +78,20 @@ no_err : {A : Type 0} (x : A) (y : PlanFault) → ◌≡◌ {A = Result A PlanFa
 no_err x y e = cc
 
 module _ {Start Chain : Type 0} (v : Solving Start Chain) (p : Validated) (k : ℕ) where
+  ordered_infeasible : (pools : List (List Cut)) (m : ℕ) (state : List ℤ) (d : Infeasibility) → certified_in_order v p pools k m state ≡ Err (Infeasible d) → NoDecision (node_at (problem_of p) d.node) d.values d.state
+  unfolding certified_in_order
+  ordered_infeasible pools m state d is =
+      let there = infeasible_there pools (node_at (problem_of p) m) k m state nothing_certified (values_of p.parts m (order_at p.parts m)) (answers_at v p pools m state) d is in
+      subst (λ (j : ℕ). NoDecision (node_at (problem_of p) j) d.values d.state) (sym there.0) there.1
+
   certified_infeasible : (pools : List (List Cut)) (m : ℕ) (state : List ℤ) (d : Infeasibility) → certified v p pools k m state ≡ Err (Infeasible d) → NoDecision (node_at (problem_of p) d.node) d.values d.state
   unfolding certified
-  certified_infeasible pools m state d is =
-      let there = infeasible_there pools (node_at (problem_of p) m) k m state nothing_certified (node_values_at p.parts m) (answers_at v p pools m state) d is in
-      subst (λ (j : ℕ). NoDecision (node_at (problem_of p) j) d.values d.state) (sym there.0) there.1
+  certified_infeasible pools m state d is = by (certified_in_order v p pools k m state) refl is
+    where
+      by : (r : Result Certified PlanFault) → certified_in_order v p pools k m state ≡ r
+          → (r >>= λ found. Ok (in_places (order_at p.parts m) found)) ≡ Err (Infeasible d) → NoDecision (node_at (problem_of p) d.node) d.values d.state
+      by (Ok found) e w = absurd (no_err (in_places (order_at p.parts m) found) (Infeasible d) w)
+      by (Err f) e w = ordered_infeasible pools m state d (e ∙ ap Err (same_err {A = Certified} f (Infeasible d) w))
 
   abbrev ranged : List (List Cut) → ℕ → Certified → Result (Certified × Cut) PlanFault
   ranged pools m found = within_range k m (range_of pools (node_at (problem_of p) m) found.list) (found, cut_of pools (node_at (problem_of p) m) found.list)

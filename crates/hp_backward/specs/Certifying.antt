@@ -1,7 +1,6 @@
 -- The certificates of a node at an incoming state, one for each realization.
-use Rattle.std.specs.Prelude.{ℕ, ◌+◌, ◌/◌, ℤ, List, [], ◌∷◌, ◌++◌, length, map, take, drop, get_or, Result, Ok, Err}
+use Rattle.std.specs.Prelude.{ℕ, ◌+◌, ◌/◌, ℤ, List, [], ◌∷◌, ◌++◌, length, map, take, drop, get_or, set, replicate, Result, Ok, Err}
 use Rattle.hp_num.specs.Steps.{◌>>=◌}
-use Rattle.hp_parts.specs.declared.parts.Node as nodes
 use Rattle.hp_parts.specs.declared.parts.ProblemParts.{ProblemParts}
 use Rattle.hp_problem.specs.Validated.{Validated}
 use Rattle.hp_theory.specs.declared.cut.Cut.{Cut}
@@ -17,12 +16,17 @@ use Rattle.hp_settle.specs.Classifying.{classify_of}
 use Rattle.hp_settle.specs.Settling.{settled_of}
 use Rattle.hp_solver.specs.Solving.{Solving}
 use Rattle.hp_lp.specs.Nodes.{stage_at}
+use Rattle.hp_lp.specs.Orders.{node_values_at, solving_order}
 use Rattle.hp_lp.specs.Chained.{chain_answers}
 use Rattle.hp_backward.specs.declared.certified.Certified.{Certified}
 
--- the values of the node m, a list for each realization
-abbrev pub node_values_at : ProblemParts → ℕ → List (List ℤ)
-node_values_at parts m = get_or (map (λ (n : nodes.Node). n.values) parts.nodes) m []
+-- the values of some of the node m's realizations, by their numbers
+abbrev pub values_of : ProblemParts → ℕ → List ℕ → List (List ℤ)
+values_of parts m order = map (λ i. get_or (node_values_at parts m) i []) order
+
+-- the numbers of the node m's realizations, in the order in which they are solved
+abbrev pub order_at : ProblemParts → ℕ → List ℕ
+order_at parts m = solving_order (node_values_at parts m)
 
 -- a list up to its middle, rounded down, and the rest of it
 abbrev pub first_half : {A : Type 0} → List A → List A
@@ -35,9 +39,11 @@ second_half xs = drop (length xs / 2) xs
 abbrev pub answers_to : {Start Chain : Type 0} → Solving Start Chain → Validated → List (List Cut) → ℕ → List ℤ → List (List ℤ) → List Answer
 answers_to v p pools m state values = chain_answers v p m (map (λ (own : List ℤ). stage_at p pools m own state) values)
 
--- the answers to all realizations of the node m: the first half in one chain, the rest in another
+-- the answers to all realizations of the node m, in their order: the first half in one chain, the rest in another
 abbrev pub answers_at : {Start Chain : Type 0} → Solving Start Chain → Validated → List (List Cut) → ℕ → List ℤ → List Answer
-answers_at v p pools m state = answers_to v p pools m state (first_half (node_values_at p.parts m)) ++ answers_to v p pools m state (second_half (node_values_at p.parts m))
+answers_at v p pools m state =
+    let order : List ℕ = order_at p.parts m in
+    answers_to v p pools m state (values_of p.parts m (first_half order)) ++ answers_to v p pools m state (values_of p.parts m (second_half order))
 
 abbrev pub nothing_certified : Certified
 nothing_certified = record { list = []; unanswered = 0 }
@@ -47,8 +53,8 @@ abbrev pub both_certified : Certified → Certified → Certified
 both_certified a b = record { list = a.list ++ b.list; unanswered = a.unanswered + b.unanswered }
 
 -- the certificates of two parts, one after the other, or the first fault
-abbrev pub in_order : Result Certified PlanFault → Result Certified PlanFault → Result Certified PlanFault
-in_order one other = one >>= λ a. other >>= λ b. Ok (both_certified a b)
+abbrev pub in_turn : Result Certified PlanFault → Result Certified PlanFault → Result Certified PlanFault
+in_turn one other = one >>= λ a. other >>= λ b. Ok (both_certified a b)
 
 -- with a realization more, by the classification of its answer; an infeasible one stops the iteration
 abbrev pub with_classified : ℕ → ℕ → List ℤ → List ℤ → Certificate → Certified → Classified → Result Certified PlanFault
@@ -60,7 +66,7 @@ with_classified k m state values c found (classified.Infeasibility rows) = Err (
 unfoldable pub certify : List (List Cut) → Node → ℕ → ℕ → List ℤ → Certified → List ℤ → Answer → Result Certified PlanFault
 certify pools n k m state found values a = with_classified k m state values (settled_of pools n a) found (classify_of n values state a)
 
--- realizations with their answers, in order; the first that is infeasible stops
+-- realizations with their answers, one after another; the first that is infeasible stops
 abbrev pub certify_all : (Certified → List ℤ → Answer → Result Certified PlanFault) → Certified → List (List ℤ) → List Answer → Result Certified PlanFault
 certify_all step found [] answers = Ok found
 certify_all step found (values ∷ tail) [] = Ok found
@@ -70,6 +76,24 @@ certify_all step found (values ∷ tail) (a ∷ answers) = step found values a >
 abbrev pub in_chain : {Start Chain : Type 0} → Solving Start Chain → Validated → List (List Cut) → ℕ → ℕ → List ℤ → List (List ℤ) → Result Certified PlanFault
 in_chain v p pools k m state values = certify_all (certify pools (node_at (problem_of p) m) k m state) nothing_certified values (answers_to v p pools m state values)
 
--- the certificates of the node m at an incoming state, over these pools, in iteration k
+-- a certificate without multipliers
+abbrev pub blank : Certificate
+blank = record { rows = []; cuts = [] }
+
+-- the list with some certificates, each at the number of its realization
+abbrev pub placed : List ℕ → List Certificate → List Certificate → List Certificate
+placed [] cs list = list
+placed (i ∷ order) [] list = list
+placed (i ∷ order) (c ∷ cs) list = set (placed order cs list) i c
+
+-- certificates in the order of solving, back at the places of their realizations
+abbrev pub in_places : List ℕ → Certified → Certified
+in_places order found = record { list = placed order found.list (replicate (length order) blank); unanswered = found.unanswered }
+
+-- the certificates of the node m at an incoming state, over these pools, in iteration k, in the order of solving
+unfoldable pub certified_in_order : {Start Chain : Type 0} → Solving Start Chain → Validated → List (List Cut) → ℕ → ℕ → List ℤ → Result Certified PlanFault
+certified_in_order v p pools k m state = certify_all (certify pools (node_at (problem_of p) m) k m state) nothing_certified (values_of p.parts m (order_at p.parts m)) (answers_at v p pools m state)
+
+-- and each at the place of its realization
 unfoldable pub certified : {Start Chain : Type 0} → Solving Start Chain → Validated → List (List Cut) → ℕ → ℕ → List ℤ → Result Certified PlanFault
-certified v p pools k m state = certify_all (certify pools (node_at (problem_of p) m) k m state) nothing_certified (node_values_at p.parts m) (answers_at v p pools m state)
+certified v p pools k m state = certified_in_order v p pools k m state >>= λ found. Ok (in_places (order_at p.parts m) found)

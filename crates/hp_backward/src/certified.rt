@@ -1,13 +1,14 @@
 // Certificates of a node's realizations, from a solver's answers.
-ghost use Rattle.std.specs.Prelude.{◌≡◌, ◌+◌, ◌<◌, ◌≤◌, ◌-◌, ◌^◌, true, length, IfOk};
+ghost use Rattle.std.specs.Prelude.{◌≡◌, ◌+◌, ◌<◌, ◌≤◌, ◌-◌, ◌^◌, [], true, length, get_or, All, IfOk};
 ghost use Rattle.hp_parts.specs.Limits.{are_values};
 ghost use Rattle.hp_problem.specs.Validated.{subproblem_of};
 ghost use Rattle.hp_num.specs.Steps.{GivesOr};
 ghost use Rattle.hp_theory.specs.Problem.{node_at};
 ghost use Rattle.hp_theory.specs.View.{problem_of};
 ghost use Rattle.hp_cut.specs.AtNodes.{PoolsFit};
+ghost use Rattle.hp_lp.specs.Orders.{node_values_at};
 ghost use Rattle.hp_settle.specs.Faults.{Stops};
-ghost use Rattle.hp_backward.specs.Certifying.{certify, nothing_certified};
+ghost use Rattle.hp_backward.specs.Certifying.{certify, nothing_certified, order_at};
 ghost use Rattle.hp_backward.specs.Given.{CanVisit, IsStageOver};
 
 use hp_cut::{Pools, Spares};
@@ -32,7 +33,7 @@ pub(crate) struct Visit<'a, V: Solver> {
 /// Certificates of some realizations.
 #[derive(Drop)]
 pub(crate) struct Certified {
-    /// In the order of the realizations.
+    /// One per realization.
     pub(crate) list: List<Certificate>,
     /// The number of answers that were of no use.
     pub(crate) unanswered: u32,
@@ -51,6 +52,30 @@ impl Certified {
 }
 
 impl<'a, V: Solver> Visit<'a, V> {
+    /// The numbers of the node's realizations, in the order in which they are solved.
+    pub(crate) fn order(&self) -> &'a [usize]
+        requires { self.now.node < length self.now.planner.now.problem.now.parts.nodes }
+        ensures value { result.now ≡ order_at self.now.planner.now.problem.now.parts self.now.node }
+        ensures known { All (λ i. i < length (node_values_at self.now.planner.now.problem.now.parts self.now.node)) result.now }
+        ensures all { length result.now ≡ length (node_values_at self.now.planner.now.problem.now.parts self.now.node) }
+        ensures some { 0 < length result.now }
+        ensures few { length result.now ≤ 100 }
+    {
+        let _ = self.planner.problem().parts();
+        self.planner.order(self.node)
+    }
+
+    /// The values of a realization of the node, by its number.
+    pub(crate) fn own(&self, realization: usize) -> &'a [i64]
+        requires known { self.now.node < length self.now.planner.now.problem.now.parts.nodes }
+        requires there { realization < length (node_values_at self.now.planner.now.problem.now.parts self.now.node) }
+        ensures value { result.now ≡ get_or (node_values_at self.now.planner.now.problem.now.parts self.now.node) realization [] }
+        ensures fit { are_values (subproblem_of self.now.planner.now.problem.now self.now.node) result.now ≡ true }
+    {
+        let nodes = self.planner.problem().parts().nodes.as_slice();
+        nodes[self.node as usize].values.as_slice()[realization].as_slice()
+    }
+
     /// Builds the stage problem of the node at these values, in the memory that is lent.
     pub(crate) fn stage(
         &self,

@@ -4,6 +4,7 @@
 mod certified;
 mod chains;
 pub mod passes;
+mod places;
 mod steps_back;
 mod two_chains;
 

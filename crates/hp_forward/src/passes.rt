@@ -93,7 +93,7 @@ fn passes_beside<R: Threads + Sync, V: Solver>(
         || -> Result<List<Trajectory>, PlanFault>
             requires paths { All (IsPath problem.now) front.now }
             requires fit { PoolsFit problem.now pools.now.lists }
-            requires ready { AreReady (V.does solver.now) (V.suits solver.now) problem.now starts.now.items }
+            requires ready { AreReady (V.does solver.now) (V.suits solver.now) problem.now starts.now.items starts.now.orders }
             ensures { GivesOrRefutes result (walks_of (V.does solver.entry.now) problem.entry.now pools.entry.now.lists run front.entry.now) }
         {
             let planner = Planner::new(problem, solver, starts);
@@ -102,7 +102,7 @@ fn passes_beside<R: Threads + Sync, V: Solver>(
         || -> Result<List<Trajectory>, PlanFault>
             requires paths { All (IsPath problem.now) back.now }
             requires fit { PoolsFit problem.now pools.now.lists }
-            requires ready { AreReady (V.does solver.now) (V.suits solver.now) problem.now starts.now.items }
+            requires ready { AreReady (V.does solver.now) (V.suits solver.now) problem.now starts.now.items starts.now.orders }
             ensures { GivesOrRefutes result (walks_of (V.does solver.entry.now) problem.entry.now pools.entry.now.lists run back.entry.now) }
         {
             let planner = Planner::new(problem, solver, starts);

@@ -13,3 +13,4 @@ pub mod OutBoxes
 pub mod BoxMaximaOfCuts
 pub mod EachReady
 pub mod Answering
+pub mod NearBy

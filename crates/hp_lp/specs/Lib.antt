@@ -4,5 +4,6 @@ pub mod Spans
 pub mod Given
 pub mod Outs
 pub mod Nodes
+pub mod Orders
 pub mod Ready
 pub mod Chained

@@ -1,4 +1,4 @@
--- The starts that a solver made for the nodes of a problem.
+-- What a solver made ready for the nodes of a problem.
 use Rattle.std.specs.Prelude.{◌≡◌, ℕ, List, length, slice_get, Some}
 use Rattle.std.proofs.Props.{props}
 use Rattle.hp_problem.specs.Validated.{Validated}
@@ -6,6 +6,7 @@ use Rattle.hp_solver.specs.declared.programs.Program.{Program}
 use Rattle.hp_solver.specs.Proper.{Extends}
 use Rattle.hp_solver.specs.Solving.{Solving}
 use Rattle.hp_lp.specs.Nodes.{reference_at}
+use Rattle.hp_lp.specs.Orders.{solving_orders}
 
 -- the start that the reference program of the node m makes; a chain may begin from there with each program that extends it
 pub record IsReady {Start Chain : Type 0} (v : Solving Start Chain) (suits : Start → Program → Type 0) (p : Validated) (m : ℕ) (start : Start) : Type 0 where
@@ -13,10 +14,15 @@ pub record IsReady {Start Chain : Type 0} (v : Solving Start Chain) (suits : Sta
   pub begins : (lp : Program) → Extends (reference_at p m) lp → suits start lp
 
 -- one for each node
-pub record AreReady {Start Chain : Type 0} (v : Solving Start Chain) (suits : Start → Program → Type 0) (p : Validated) (starts : List Start) : Type 0 where
+pub record AreStarts {Start Chain : Type 0} (v : Solving Start Chain) (suits : Start → Program → Type 0) (p : Validated) (starts : List Start) : Type 0 where
   pub count : length starts ≡ length p.parts.nodes
   pub each : (m : ℕ) (start : Start) → slice_get starts m ≡ Some start → IsReady v suits p m start
 
+-- a start for each node, and the order in which its realizations are solved
+pub record AreReady {Start Chain : Type 0} (v : Solving Start Chain) (suits : Start → Program → Type 0) (p : Validated) (starts : List Start) (orders : List (List ℕ)) : Type 0 where
+  pub starts_ready : AreStarts v suits p starts
+  pub orders_ready : orders ≡ solving_orders p.parts
+
 -- two proofs of it are equal
-pub AreReady-prop : {Start Chain : Type 0} (v : Solving Start Chain) (suits : Start → Program → Type 0) (p : Validated) (starts : List Start) → IsSet Start → ((start : Start) (lp : Program) → IsProp (suits start lp)) → IsProp (AreReady v suits p starts)
-AreReady-prop v suits p starts set once = Prim.hlevel props
+pub AreReady-prop : {Start Chain : Type 0} (v : Solving Start Chain) (suits : Start → Program → Type 0) (p : Validated) (starts : List Start) (orders : List (List ℕ)) → IsSet Start → ((start : Start) (lp : Program) → IsProp (suits start lp)) → IsProp (AreReady v suits p starts orders)
+AreReady-prop v suits p starts orders set once = Prim.hlevel props

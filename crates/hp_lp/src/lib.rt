@@ -5,6 +5,7 @@ mod columns;
 mod cut_rows;
 mod cut_values;
 pub mod laws;
+mod orders;
 mod out_boxes;
 mod outs;
 mod own_rows;

@@ -5,6 +5,7 @@ ghost use Rattle.hp_solver.specs.declared.programs.Program.{Program};
 ghost use Rattle.hp_solver.specs.Proper.{IsLike};
 ghost use Rattle.hp_lp.specs.Chained.{begun_at};
 ghost use Rattle.hp_lp.specs.Nodes.{IsStageAt};
+ghost use Rattle.hp_lp.specs.Orders.{node_values_at, solving_order};
 ghost use Rattle.hp_lp.specs.Ready.{AreReady, AreReady-prop};
 
 use crate::warm_starts::WarmStarts;
@@ -19,14 +20,14 @@ pub struct Planner<'a, V: Solver> {
     problem: &'a Problem,
     solver: &'a V,
     starts: &'a WarmStarts<V>,
-    // The starts were made for this problem by this solver.
-    ghost ready: { AreReady (V.does solver.now) (V.suits solver.now) problem.now starts.now.items } by { AreReady-prop (V.does solver.now) (V.suits solver.now) problem.now starts.now.items (λ x y. Coded-set V.Start.code x y) (V.suits_is_fact solver.now) },
+    // The starts and the orders were made for this problem by this solver.
+    ghost ready: { AreReady (V.does solver.now) (V.suits solver.now) problem.now starts.now.items starts.now.orders } by { AreReady-prop (V.does solver.now) (V.suits solver.now) problem.now starts.now.items starts.now.orders (λ x y. Coded-set V.Start.code x y) (V.suits_is_fact solver.now) },
 }
 
 impl<'a, V: Solver> Planner<'a, V> {
     /// A problem with a solver and the starts that it made for this problem.
     pub fn new(problem: &'a Problem, solver: &'a V, starts: &'a WarmStarts<V>) -> Planner<'a, V>
-        requires { AreReady (V.does solver.now) (V.suits solver.now) problem.now starts.now.items }
+        requires { AreReady (V.does solver.now) (V.suits solver.now) problem.now starts.now.items starts.now.orders }
         ensures problem { result.problem.now ≡ problem.now }
         ensures solver { result.solver.now ≡ solver.now }
     {
@@ -51,11 +52,22 @@ impl<'a, V: Solver> Planner<'a, V> {
         self.solver
     }
 
-    /// The starts.
+    /// The starts, and the orders of realizations.
     pub fn starts(&self) -> &'a WarmStarts<V>
-        ensures ready { AreReady (V.does self.now.solver.now) (V.suits self.now.solver.now) self.now.problem.now result.now.items }
+        ensures ready { AreReady (V.does self.now.solver.now) (V.suits self.now.solver.now) self.now.problem.now result.now.items result.now.orders }
     {
         self.starts
+    }
+
+    /// The numbers of a node's realizations in the order in which they are solved: the first one, then each the nearest that is
+    /// left to the one before, by the sum of the absolute differences of their values (Rosenkrantz, Stearns and Lewis 1977). Five
+    /// or fewer stay as they are listed.
+    pub fn order(&self, node: u32) -> &'a [usize]
+        requires { node < length self.now.problem.now.parts.nodes }
+        ensures { result.now ≡ solving_order (node_values_at self.now.problem.now.parts node) }
+    {
+        let _ = self.problem.parts();
+        self.starts.order(node)
     }
 
     /// Begins a chain of a node with one of its stage problems, by the start of the node, in the memory of the chain that came

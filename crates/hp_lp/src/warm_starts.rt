@@ -1,28 +1,41 @@
-// The starts that a solver makes for the nodes of a problem.
-ghost use Rattle.std.specs.Prelude.{◌≡◌, ◌<◌, length, IfOk, Some, slice_get};
-ghost use Rattle.hp_lp.specs.Ready.{AreReady};
+// What a solver makes ready for the nodes of a problem.
+ghost use Rattle.std.specs.Prelude.{◌≡◌, ◌<◌, ℕ, [], length, get_or, slice_get, IfOk, Some};
+ghost use Rattle.hp_lp.specs.Ready.{AreReady, AreStarts};
 
+use crate::orders::solving_orders;
 use crate::references::reference;
 use hp_num::{List, Memory};
 use hp_problem::Problem;
 use hp_solver::Solver;
 use std::alloc::Global;
 
-/// The starts that a solver makes for the nodes of a problem, one for each, before any solve.
+/// What is made ready for the nodes of a problem before any solve: the start that a solver makes for each, and the order in
+/// which its realizations are solved.
 #[derive(Drop)]
 pub struct WarmStarts<V: Solver> {
     items: List<V::Start>,
+    // For each node the numbers of its realizations.
+    orders: List<List<usize>>,
 }
 
 impl<V: Solver> WarmStarts<V> {
-    /// Has the solver make the start of each node, by the node's reference program. A chain may begin from there with each
-    /// stage problem of the node. [`Memory`] where memory was refused.
+    /// Has the solver make the start of each node, by the node's reference program, and puts the node's realizations in order. A
+    /// chain may begin from there with each stage problem of the node. [`Memory`] where memory was refused.
     pub fn new(alloc: Global, problem: &Problem, solver: &V) -> Result<WarmStarts<V>, Memory>
-        ensures { IfOk result (λ made. AreReady (V.does solver.now) (V.suits solver.now) problem.now made.items) }
+        ensures { IfOk result (λ made. AreReady (V.does solver.now) (V.suits solver.now) problem.now made.items made.orders) }
     {
         Ok(WarmStarts {
             items: started(alloc, problem, solver)?,
+            orders: solving_orders(alloc, problem)?,
         })
+    }
+
+    /// Lends the numbers of a node's realizations, in the order in which they are solved.
+    pub(crate) fn order(&self, node: u32) -> &[usize]
+        requires { node < length self.now.orders }
+        ensures { result.now ≡ get_or self.now.orders node [] }
+    {
+        self.orders.as_slice()[node as usize].as_slice()
     }
 
     /// Lends the start of a node.
@@ -40,7 +53,7 @@ fn started<V: Solver>(
     problem: &Problem,
     solver: &V,
 ) -> Result<List<V::Start>, Memory>
-    ensures { IfOk result (λ made. AreReady (V.does solver.now) (V.suits solver.now) problem.now made) }
+    ensures { IfOk result (λ made. AreStarts (V.does solver.now) (V.suits solver.now) problem.now made) }
 {
     let nodes = problem.parts().nodes.len() as u32;
     let mut made = List::from_vec(Vec::with_capacity(alloc, nodes as usize)?);

@@ -22,7 +22,8 @@ use Rattle.hp_sampler.specs.declared.steps.PathStep.{PathStep}
 use Rattle.hp_sampler.specs.Drawn.{IsInRange}
 use Rattle.hp_cut.specs.AtNodes.{IsStateAt}
 use Rattle.hp_forward.specs.Walking.{AreStatesInside}
-use Rattle.hp_backward.specs.Certifying.{answers_at, both_certified, certified, certify, certify_all, nothing_certified, node_values_at, with_classified}
+use Rattle.hp_backward.specs.Certifying.{answers_at, both_certified, certified, certified_in_order, certify, certify_all, in_places, nothing_certified, order_at, values_of, with_classified}
+use Rattle.hp_backward.proofs.Placed.{all-values_of, order_known}
 use Rattle.hp_backward.specs.Sweeping.{Swept, backwards, made_at, step_back, swept, with_made, within_range}
 use Rattle.hp_run.specs.Refuted.{IsRealized}
 use Rattle.hp_run.proofs.Located.{Located, err_then, classified_refutes, located}
@@ -82,9 +83,13 @@ module _ (p : Validated) (pools : List (List Cut)) (k m : ℕ) (state : List ℤ
   within_located (Some r) made = tt
 
   module _ {Start Chain : Type 0} (v : Solving Start Chain) (validated : is_validated p ≡ true) where
+    ordered_located : IfErr (certified_in_order v p pools k m state) Here
+    unfolding certified_in_order
+    ordered_located = all_located nothing_certified (values_of p.parts m (order_at p.parts m)) (answers_at v p pools m state) (all-values_of p.parts m Own (order_at p.parts m) (values_realized p m validated known) (order_known p.parts m))
+
     certified_located : IfErr (certified v p pools k m state) Here
     unfolding certified
-    certified_located = all_located nothing_certified (node_values_at p.parts m) (answers_at v p pools m state) (values_realized p m validated known)
+    certified_located = err_then Here (certified_in_order v p pools k m state) (λ found. Ok (in_places (order_at p.parts m) found)) ordered_located (λ found is. tt)
 
     pub made_located : IfErr (made_at v p pools k m state) Here
     unfolding made_at

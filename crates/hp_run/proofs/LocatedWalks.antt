@@ -22,7 +22,7 @@ use Rattle.hp_forward.specs.declared.deciding.Decided.{Decided}
 use Rattle.hp_cut.specs.AtNodes.{IsStateAt}
 use Rattle.hp_forward.specs.Walking.{decide_step, each_of, no_walk, values_of, trajectory_of, walk_on, walked, walks_of}
 use Rattle.hp_forward.proofs.Walks.{ComesTo, comes_first, comes_next, decides}
-use Rattle.hp_backward.specs.Certifying.{node_values_at}
+use Rattle.hp_lp.specs.Orders.{node_values_at}
 use Rattle.hp_run.specs.Refuted.{IsRealized}
 use Rattle.hp_run.proofs.Located.{Located, decide_located, err_as, err_then}
 

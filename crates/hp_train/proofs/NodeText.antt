@@ -3,6 +3,7 @@ use Rattle.std.proofs.Common.{◌≡◌, ◌∙◌, ℕ, zero, suc, ◌+◌, ◌
 use Rattle.std.specs.Prelude.{option_map, unwrap_or}
 use Rattle.std.specs.List.{AllByRecursion}
 use Rattle.std.proofs.lemmas.List.{length-map, length-append, take-append-drop}
+use Rattle.std.proofs.lemmas.List.Elements.{All-from_recursion, recursion_from_All}
 use Rattle.std.proofs.lemmas.List.Sums.{sum_by-cons}
 use Rattle.std.proofs.lemmas.Slice.Zip.{length-zip}
 use Rattle.hp_num.specs.Steps.{◌>>=◌}
@@ -26,9 +27,11 @@ use Rattle.hp_settle.specs.Settling.{settled_of}
 use Rattle.hp_settle.proofs.SettledNode.{have_cuts}
 use Rattle.hp_cut.specs.declared.entry.EntryStep.{EntryStep}
 use Rattle.hp_solver.specs.Solving.{Solving}
-use Rattle.hp_backward.specs.Certifying.{node_values_at, first_half, second_half, answers_to, answers_at, nothing_certified, with_classified, certify, certify_all, certified}
-use Rattle.hp_backward.proofs.Certificates.{counted-answers_to, listed}
+use Rattle.hp_lp.specs.Orders.{node_values_at}
+use Rattle.hp_backward.specs.Certifying.{answers_at, certified, certify, certify_all, nothing_certified, order_at, values_of, with_classified}
+use Rattle.hp_backward.proofs.Certificates.{InPlaces, each_in_place}
 use Rattle.hp_backward.proofs.NodeValues.{values_here}
+use Rattle.hp_backward.proofs.Placed.{all_in_places, length-in_places, length-order_at, length-values_of}
 use Rattle.hp_record.specs.Shape.{sizes_of, SuitsSizes, StepSuits, CertificateFits, StepFits, StepWithin}
 use Rattle.hp_record.proofs.NodeParts.{weights_are, successors_are}
 use Rattle.hp_record.proofs.Room.{all_weaker}
@@ -96,15 +99,6 @@ module _ (pools : List (List Cut)) (n : Node) (k m : ℕ) (state : List ℤ) whe
       by tail classified.Unanswered w = omega (arith, tail (record { list = found.list ++ c ∷ []; unanswered = found.unanswered + 1 }) w)
       by tail (classified.Infeasibility rows) w = absurd (no_ok _ g w)
 
--- as many answers as realizations
-counted_answers_at : {Start Chain : Type 0} (v : Solving Start Chain) (p : Validated) (pools : List (List Cut)) (m : ℕ) (state : List ℤ) → length (answers_at v p pools m state) ≡ length (node_values_at p.parts m)
-counted_answers_at v p pools m state =
-    let vs : List (List ℤ) = node_values_at p.parts m in
-    let xs : List Answer = answers_to v p pools m state (first_half vs) in
-    let ys : List Answer = answers_to v p pools m state (second_half vs) in
-    let whole : length (first_half vs) + length (second_half vs) ≡ length vs = sym (length-append (first_half vs) (second_half vs)) ∙ ap (λ (all : List (List ℤ)). length all) (take-append-drop (length vs / 2) vs) in
-    omega (arith, length-append xs ys, counted-answers_to v p pools m state (first_half vs), counted-answers_to v p pools m state (second_half vs), whole)
-
 -- the premises under which a step of an entry can be written, with at most so many pairs to a list
 pub record StepText (p : Validated) (most : ℕ) (s : EntryStep) : Type 0 where
   pub suits : StepSuits p s
@@ -122,15 +116,18 @@ module _ {Start Chain : Type 0} (v : Solving Start Chain) (p : Validated) (valid
   seen : SizesSeen p m
   seen = sizes_seen p m validated known
 
-  list_is : found.list ≡ map (settled_of pools n) answers
-  unfolding certified
-  list_is = listed pools n k m state nothing_certified (node_values_at p.parts m) answers found (counted_answers_at v p pools m state) is
+  at : InPlaces v p pools k m state found
+  at = each_in_place v p pools k m state found is
+
+  solved_texts : AllByRecursion (HasText most n) at.solved.list
+  solved_texts = subst (AllByRecursion (HasText most n)) (sym at.order.settled) (all_text pools n most (have_cuts p m pools validated known fit) seen.light small few answers)
 
   texts : AllByRecursion (HasText most n) found.list
-  texts = subst (AllByRecursion (HasText most n)) (sym list_is) (all_text pools n most (have_cuts p m pools validated known fit) seen.light small few answers)
+  texts = subst (λ (f : Certified). AllByRecursion (HasText most n) f.list) (sym at.placed_is)
+      (recursion_from_All (HasText most n) _ (all_in_places (node_values_at p.parts m) at.solved.list at.order.count (HasText most n) (All-from_recursion (HasText most n) at.solved.list solved_texts)))
 
   count : length found.list ≡ (sizes_of p m).realizations
-  count = ap (λ (cs : List Certificate). length cs) list_is ∙ length-map answers (settled_of pools n) ∙ counted_answers_at v p pools m state ∙ (values_here p m validated known).count ∙ seen.realizations
+  count = ap (λ (f : Certified). length f.list) at.placed_is ∙ length-in_places (node_values_at p.parts m) at.solved.list at.order.count ∙ (values_here p m validated known).count ∙ seen.realizations
 
   pub certified_text : StepText p most (record { node = m; list = found.list })
   certified_text = record {
@@ -140,5 +137,11 @@ module _ {Start Chain : Type 0} (v : Solving Start Chain) (p : Validated) (valid
   }
 
   pub certified_few : found.unanswered ≤ 100
-  unfolding certified
-  certified_few = omega (arith, few_counted pools n k m state nothing_certified (node_values_at p.parts m) answers found is, (values_here p m validated known).few)
+  certified_few = omega (
+    arith,
+    ap (λ (f : Certified). f.unanswered) at.placed_is,
+    few_counted pools n k m state nothing_certified (values_of p.parts m (order_at p.parts m)) answers at.solved at.order.is,
+    length-values_of p.parts m (order_at p.parts m),
+    length-order_at p.parts m,
+    (values_here p m validated known).few,
+  )

@@ -1,0 +1,6 @@
+use Rattle.std.proofs.Common.{◌≡◌, replicate}
+use Rattle.hp_backward.specs.Certifying.{blank}
+use Rattle.hp_backward.proofs.places.blanks.Given as goal
+
+abbrev pub invariant-loop : goal.invariant-loop
+invariant-loop l = l.list ≡ replicate l.counter blank
