@@ -36,7 +36,7 @@ class Rows(unittest.TestCase):
     maxDiff = None
 
     def test_there_are_rows(self):
-        self.assertEqual(len(command_rows()), 33)
+        self.assertEqual(len(command_rows()), 36)
         self.assertEqual(len(measure_rows()), 5)
 
     def test_commands(self):

@@ -5,5 +5,6 @@ numbers of 64 bits (`simplex`, `rays`, on a `table` in the scale of `scaling`), 
 of 128 bits (`wide`). Duals become certificates in `settling`, and points become decisions that meet their rows in `mending`.
 
 A problem's file is read in `problem`, and its stage programs are made in `stages`. Along paths that are drawn in `drawing`, `training`
-makes cuts of certificates (`cuts`), and `journal` keeps them. `reports` has what is printed of it, of scenarios and of the cost of a policy.
+makes cuts of certificates (`cuts`), for which realizations are solved in the order of `ordering`, and `journal` keeps them. `reports` has what is
+printed of it, of scenarios and of the cost of a policy.
 """

@@ -2,12 +2,14 @@
 from __future__ import annotations
 
 from dataclasses import dataclass, field
-from typing import List, Optional, Sequence, Tuple, Union
+from typing import Dict, List, Optional, Sequence, Tuple, Union
 
 from .cuts import OutOfRange, Pools, base_pools, bound_of, cut_of
 from .drawing import Path, path_of, stream_of
 from .node import UNIT
+from .ordering import solving_order
 from .problem import Problem
+from .program import Answer
 from .settling import Certificate, certificate_of_duals
 from .stages import NoDecision, Solver, node_with_pools
 
@@ -56,15 +58,21 @@ class Training:
         return states
 
     def certificates(self, number: int, state: Sequence[int], entry: Entry) -> List[Certificate]:
-        """The certificates of all realizations of a node at a state: the first half in one chain, the rest in another."""
+        """The certificates of all realizations of a node at a state, in the order of the file.
+
+        The first half of the solving order is one chain, the rest another. The first in that order without decisions stops it all.
+        """
         place = self.problem.places[number]
         given = [it.values for it in place.realizations]
-        half = len(given) // 2
-        answers = [it for part in (given[:half], given[half:]) for it in self.solver.answers(number, self.pools, part, state)]
-        for values, answer in zip(given, answers):
-            entry.unanswered += not self.solver.worth(number, values, state, answer)
+        order = solving_order(given)
+        half = len(order) // 2
+        answers: Dict[int, Answer] = {}
+        for part in (order[:half], order[half:]):
+            answers.update(zip(part, self.solver.answers(number, self.pools, [given[it] for it in part], state)))
+        for it in order:
+            entry.unanswered += not self.solver.worth(number, given[it], state, answers[it])
         node = node_with_pools(place, self.pools)
-        return [certificate_of_duals(node, it) for it in answers]
+        return [certificate_of_duals(node, answers[it]) for it in range(len(given))]
 
     def sweep(self, path: Path, states: Sequence[Sequence[int]], entry: Entry) -> None:
         """Makes a cut at each node of a path, from its last to its first."""
