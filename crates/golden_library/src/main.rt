@@ -6,6 +6,7 @@
 mod alike;
 mod certificates;
 mod chain;
+mod chained;
 mod fault;
 mod formulas;
 mod iterations;
@@ -23,7 +24,6 @@ mod stage_cuts;
 mod stage_moments;
 mod stage_parts;
 mod stage_texts;
-mod threaded;
 mod training;
 mod twice;
 mod words;

@@ -9,11 +9,11 @@ pub enum Named {
     DualSimplex,
     /// The solver of the program.
     WarmSimplex,
-    /// The solver of the program, all on one thread.
-    WarmOneThread,
-    /// The solver of the program, in halves on two threads.
-    WarmTwoThreads,
-    /// The solver of the program on one thread, each program solved twice.
+    /// The solver of the program, the realizations of each node in one chain.
+    WarmOneChain,
+    /// The solver of the program, the realizations of each node in two chains, on two threads.
+    WarmTwoChains,
+    /// The solver of the program in one chain, each program solved twice.
     WarmTwice,
     /// Answers without work.
     Zero,
@@ -28,8 +28,8 @@ pub fn by_name(name: &str) -> Option<Named> {
     match name {
         "dual-simplex" => Some(Named::DualSimplex),
         "warm-simplex" => Some(Named::WarmSimplex),
-        "warm-one-thread" => Some(Named::WarmOneThread),
-        "warm-two-threads" => Some(Named::WarmTwoThreads),
+        "warm-one-chain" => Some(Named::WarmOneChain),
+        "warm-two-chains" => Some(Named::WarmTwoChains),
         "warm-twice" => Some(Named::WarmTwice),
         "zero" => Some(Named::Zero),
         "wild" => Some(Named::Liar(Kind::Found)),

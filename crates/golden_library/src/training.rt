@@ -1,11 +1,11 @@
 // The answers to rows on training.
 ghost use Rattle.hp_cut.specs.AtNodes.{PoolsFit};
 
+use crate::chained::Chained;
 use crate::fault::RowFault;
 use crate::iterations::{Plan, Told, base_pools, steps};
 use crate::lines::push_cuts;
 use crate::solvers::{Named, by_name, wild};
-use crate::threaded::Threaded;
 use crate::twice::Twice;
 use crate::words::{number, word};
 use hp_cut::Pools;
@@ -91,20 +91,20 @@ fn push_lied<R: Threads + Sync>(
     push_trained(rt, alloc, problem, &liar, plan, text)
 }
 
-/// Like `push_trained`, with the solver of the program, all on one thread or in halves on two.
+/// Like `push_trained`, with the solver of the program, all in one chain or in two on two threads.
 fn push_warm<R: Threads + Sync>(
     rt: &R,
     alloc: Global,
     problem: &Problem,
-    worth: bool,
+    two: bool,
     plan: Plan,
     text: &mut String,
 ) -> Result<(), RowFault> {
     let solver = &WarmSimplex;
-    push_trained(rt, alloc, problem, &Threaded { solver, worth }, plan, text)
+    push_trained(rt, alloc, problem, &Chained { solver, two }, plan, text)
 }
 
-/// Like `push_trained`, with the solver of the program on one thread, where each program is solved twice.
+/// Like `push_trained`, with the solver of the program in one chain, where each program is solved twice.
 fn push_twice<R: Threads + Sync>(
     rt: &R,
     alloc: Global,
@@ -116,8 +116,8 @@ fn push_twice<R: Threads + Sync>(
         solver: &WarmSimplex,
     };
     let solver = &twice;
-    let worth = false;
-    push_trained(rt, alloc, problem, &Threaded { solver, worth }, plan, text)
+    let two = false;
+    push_trained(rt, alloc, problem, &Chained { solver, two }, plan, text)
 }
 
 /// Like `push_trained`, with the solver of a name.
@@ -132,8 +132,8 @@ fn push_trained_by<R: Threads + Sync>(
     match solver {
         Named::DualSimplex => push_trained(rt, alloc, problem, &DualSimplex, plan, text),
         Named::WarmSimplex => push_trained(rt, alloc, problem, &WarmSimplex, plan, text),
-        Named::WarmOneThread => push_warm(rt, alloc, problem, false, plan, text),
-        Named::WarmTwoThreads => push_warm(rt, alloc, problem, true, plan, text),
+        Named::WarmOneChain => push_warm(rt, alloc, problem, false, plan, text),
+        Named::WarmTwoChains => push_warm(rt, alloc, problem, true, plan, text),
         Named::WarmTwice => push_twice(rt, alloc, problem, plan, text),
         Named::Zero => push_trained(rt, alloc, problem, &Zero, plan, text),
         Named::Liar(kind) => push_lied(rt, alloc, problem, kind, plan, text),

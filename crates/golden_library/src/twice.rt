@@ -30,7 +30,7 @@ impl<'a, V: Solver> Solver for Twice<'a, V> {
     type Chain = (V::Chain, V::Chain);
 
     ghost does = { λ twice. let own = V.does twice.solver.now in
-        record { started = own.started; begun = λ start lp. (own.begun start lp, own.begun start lp); next = λ chains lp. ((own.next chains.0 lp).0, ((own.next chains.0 lp).1, (own.next chains.1 lp).1)) } };
+        record { started = own.started; begun = λ start lp. (own.begun start lp, own.begun start lp); next = λ chains lp. ((own.next chains.0 lp).0, ((own.next chains.0 lp).1, (own.next chains.1 lp).1)); in_two = own.in_two } };
 
     ghost suits = { λ twice start lp. V.suits twice.solver.now start lp };
 
@@ -66,7 +66,7 @@ impl<'a, V: Solver> Solver for Twice<'a, V> {
         Ok(answer)
     }
 
-    fn worth_a_thread(&self, lp: &StageLp, solves: usize) -> bool {
-        self.solver.worth_a_thread(lp, solves)
+    fn in_two_chains(&self, lp: &StageLp, solves: usize) -> bool {
+        self.solver.in_two_chains(lp, solves)
     }
 }

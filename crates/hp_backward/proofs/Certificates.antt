@@ -1,5 +1,5 @@
 -- Realizations and their answers, one after another: in parts, and facts about the result.
-use Rattle.std.proofs.Common.{◌≡◌, ℕ, suc, ◌+◌, ℤ, List, [], ◌∷◌, ◌++◌, length, map, IfOk, Result, Ok, Err, refl, ap, ap₂, sym, subst, ◌∙◌, append_assoc, arith}
+use Rattle.std.proofs.Common.{◌≡◌, ℕ, suc, ◌+◌, ℤ, List, [], ◌∷◌, ◌++◌, length, map, get_or, ◌/◌, Bool, true, false, Option, Some, IfOk, Result, Ok, Err, refl, ap, ap₂, sym, subst, ◌∙◌, append_assoc, arith}
 use Rattle.std.proofs.lemmas.List.{append-nil, length-append, length-map}
 use Rattle.hp_num.specs.Steps.{◌>>=◌, GivesOr}
 use Rattle.hp_theory.specs.declared.cut.Cut.{Cut}
@@ -19,13 +19,13 @@ use Rattle.hp_settle.specs.Faults.{Stops}
 use Rattle.hp_settle.specs.Farkas.{NoDecision}
 use Rattle.hp_settle.proofs.ClassifiedInfeasible.{classified_infeasible}
 use Rattle.hp_solver.specs.Solving.{Solving}
-use Rattle.hp_lp.specs.Nodes.{stage_at}
+use Rattle.hp_lp.specs.Nodes.{program_of, stage_at, stage_in}
 use Rattle.hp_lp.specs.Chained.{chain_answers}
 use Rattle.hp_backward.specs.declared.certified.Certified.{Certified}
 use Rattle.hp_settle.specs.declared.plan_fault.PlanFault.{PlanFault}
 use Rattle.hp_settle.specs.declared.plan_fault.PlanFault.TheVariants.{Infeasible}
-use Rattle.hp_backward.specs.Certifying.{first_half, second_half, answers_at, answers_to, both_certified, certified, certified_in_order, certify, certify_all, in_chain, in_places, in_turn, nothing_certified, order_at, values_of, with_classified}
-use Rattle.hp_backward.proofs.Placed.{halves-values_of, length-values_of}
+use Rattle.hp_backward.specs.Certifying.{answers_at, answers_in, are_in_two, answers_to, both_certified, certified, certified_in_order, certify, certify_all, first_half, second_half, in_chains, in_places, nothing_certified, order_at, values_of, with_classified}
+use Rattle.hp_backward.proofs.Placed.{length-values_of, parts-values_of}
 
 same_ok : {A E : Type 0} (x y : A) → ◌≡◌ {A = Result A E} (Ok x) (Ok y) → x ≡ y
 same_ok x y e = cc
@@ -128,27 +128,39 @@ module _ (pools : List (List Cut)) (n : Node) (k m : ℕ) (state : List ℤ) whe
           let this : Infeasibility = record { run = k; node = m; values = v; state = state; rows = rows } in
           subst (λ (x : Infeasibility). (x.node ≡ m) × NoDecision n x.values x.state) (same_infeasible this d (same_err (Infeasible this) (Infeasible d) w)) (refl, classified_infeasible n v state a rows e)
 
--- a node's realizations in the two halves of their order
-pub in_halves : {Start Chain : Type 0} (v : Solving Start Chain) (p : Validated) (pools : List (List Cut)) (k m : ℕ) (state : List ℤ)
-    → certified_in_order v p pools k m state
-    ≡ in_turn (in_chain v p pools k m state (values_of p.parts m (first_half (order_at p.parts m)))) (in_chain v p pools k m state (values_of p.parts m (second_half (order_at p.parts m))))
-unfolding certified_in_order
-in_halves v p pools k m state =
-    let order : List ℕ = order_at p.parts m in
+-- a node's realizations in one chain, or in the two halves of their order
+pub by_chains : {Start Chain : Type 0} (two : Bool) (v : Solving Start Chain) (p : Validated) (pools : List (List Cut)) (k m : ℕ) (state : List ℤ) (order : List ℕ)
+    → certify_all (certify pools (node_at (problem_of p) m) k m state) nothing_certified (values_of p.parts m order) (answers_in two v p pools m state order) ≡ in_chains two v p pools k m state order
+by_chains false v p pools k m state order = refl
+by_chains true v p pools k m state order =
     let vs : List (List ℤ) = values_of p.parts m (first_half order) in
     let ws : List (List ℤ) = values_of p.parts m (second_half order) in
     let n : Node = node_at (problem_of p) m in
-    ap (λ (all : List (List ℤ)). certify_all (certify pools n k m state) nothing_certified all (answers_to v p pools m state vs ++ answers_to v p pools m state ws)) (sym (halves-values_of p.parts m order))
+    ap (λ (all : List (List ℤ)). certify_all (certify pools n k m state) nothing_certified all (answers_to v p pools m state vs ++ answers_to v p pools m state ws)) (sym (parts-values_of p.parts m (length order / 2) order))
     ∙ all-halves pools n k m state vs ws (answers_to v p pools m state vs) (answers_to v p pools m state ws) (counted-answers_to v p pools m state vs)
 
+-- by what the solver says of the stage problem of the first one
+pub in_their_chains : {Start Chain : Type 0} (v : Solving Start Chain) (p : Validated) (pools : List (List Cut)) (k m : ℕ) (state : List ℤ) (lp : Program) (order : List ℕ) (two : Bool)
+    → stage_in p pools m (get_or (values_of p.parts m (order_at p.parts m)) 0 []) state ≡ Some lp → order ≡ order_at p.parts m → v.in_two lp (length order) ≡ two
+    → in_chains two v p pools k m state order ≡ certified_in_order v p pools k m state
+unfolding certified_in_order
+in_their_chains v p pools k m state lp order two stage all said =
+    let asked : are_in_two v p pools m state ≡ two =
+    ap₂ (λ (x : Option Program) (l : List ℕ). v.in_two (program_of x) (length l)) stage (sym all) ∙ said in
+    ap₂ (λ (t : Bool) (l : List ℕ). in_chains t v p pools k m state l) (sym asked) all
+    ∙ sym (by_chains (are_in_two v p pools m state) v p pools k m state (order_at p.parts m))
+
 -- as many answers as realizations
-pub counted_answers_at : {Start Chain : Type 0} (v : Solving Start Chain) (p : Validated) (pools : List (List Cut)) (m : ℕ) (state : List ℤ) → length (answers_at v p pools m state) ≡ length (order_at p.parts m)
-counted_answers_at v p pools m state =
-    let order : List ℕ = order_at p.parts m in
+counted_answers_in : {Start Chain : Type 0} (two : Bool) (v : Solving Start Chain) (p : Validated) (pools : List (List Cut)) (m : ℕ) (state : List ℤ) (order : List ℕ) → length (answers_in two v p pools m state order) ≡ length order
+counted_answers_in false v p pools m state order = counted-answers_to v p pools m state (values_of p.parts m order) ∙ length-values_of p.parts m order
+counted_answers_in true v p pools m state order =
     let vs : List (List ℤ) = values_of p.parts m (first_half order) in
     let ws : List (List ℤ) = values_of p.parts m (second_half order) in
-    let whole : length vs + length ws ≡ length order = sym (length-append vs ws) ∙ ap (λ (all : List (List ℤ)). length all) (halves-values_of p.parts m order) ∙ length-values_of p.parts m order in
+    let whole : length vs + length ws ≡ length order = sym (length-append vs ws) ∙ ap (λ (all : List (List ℤ)). length all) (parts-values_of p.parts m (length order / 2) order) ∙ length-values_of p.parts m order in
     omega (arith, length-append (answers_to v p pools m state vs) (answers_to v p pools m state ws), counted-answers_to v p pools m state vs, counted-answers_to v p pools m state ws, whole)
+
+pub counted_answers_at : {Start Chain : Type 0} (v : Solving Start Chain) (p : Validated) (pools : List (List Cut)) (m : ℕ) (state : List ℤ) → length (answers_at v p pools m state) ≡ length (order_at p.parts m)
+counted_answers_at v p pools m state = counted_answers_in (are_in_two v p pools m state) v p pools m state (order_at p.parts m)
 
 -- the certificates of a node in the order in which they were solved
 pub record InOrder {Start Chain : Type 0} (v : Solving Start Chain) (p : Validated) (pools : List (List Cut)) (k m : ℕ) (state : List ℤ) (found : Certified) : Type 0 where

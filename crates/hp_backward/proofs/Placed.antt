@@ -1,5 +1,5 @@
 -- Certificates at the places of their realizations, and the values of realizations in an order.
-use Rattle.std.proofs.Common.{◌≡◌, ◌≢◌, ℕ, zero, suc, ◌<◌, Bool, true, false, nat_eq, ℤ, List, [], ◌∷◌, ◌++◌, length, get_or, set, replicate, ◌/◌, All, Contains, Option, Some, None, slice_get, refl, ap, sym, subst, ◌∙◌, arith}
+use Rattle.std.proofs.Common.{◌≡◌, ◌≢◌, ℕ, zero, suc, ◌<◌, Bool, true, false, nat_eq, ℤ, List, [], ◌∷◌, ◌++◌, length, get_or, set, take, drop, replicate, All, Contains, Some, slice_get, refl, ap, sym, subst, ◌∙◌, arith}
 use Rattle.std.proofs.lemmas.Bool.Decides.{nat_tests}
 use Rattle.std.proofs.lemmas.List.{length-map, length-replicate, length-set, get_or-set_same, get_or-set_other, map-append, take-append-drop}
 use Rattle.std.proofs.lemmas.List.Elements.{All-head, All-map, All-tail}
@@ -7,7 +7,7 @@ use Rattle.hp_parts.specs.declared.parts.ProblemParts.{ProblemParts}
 use Rattle.hp_theory.specs.declared.cut.Certificate.{Certificate}
 use Rattle.hp_lp.specs.Orders.{node_values_at, solving_order}
 use Rattle.hp_lp.proofs.NearBy.{length-solving_order, solving_order_all, solving_order_below}
-use Rattle.hp_backward.specs.Certifying.{blank, first_half, order_at, placed, second_half, values_of}
+use Rattle.hp_backward.specs.Certifying.{blank, order_at, placed, values_of}
 
 -- the last certificate is placed first
 pub placed-push : (order : List ℕ) (i : ℕ) (cs : List Certificate) (c : Certificate) (list : List Certificate) → length cs ≡ length order → placed (order ++ i ∷ []) (cs ++ c ∷ []) list ≡ placed order cs (set list i c)
@@ -64,19 +64,17 @@ module _ (parts : ProblemParts) (m : ℕ) where
   pub all-values_of : (P : List ℤ → Type 0) (order : List ℕ) → All P (node_values_at parts m) → All (λ i. i < length (node_values_at parts m)) order → All P (values_of parts m order)
   all-values_of P order all known = All-map P (λ i. get_or (node_values_at parts m) i []) order (λ k d h. all (get_or order k d) [] (known k d h))
 
-  pub first-values_of : (order : List ℕ) (i : ℕ) (own : List ℤ) → slice_get order 0 ≡ Some i → own ≡ get_or (node_values_at parts m) i [] → slice_get (values_of parts m order) 0 ≡ Some own
-  first-values_of [] i own is here = absurd (no is)
-    where
-      no : ◌≡◌ {A = Option ℕ} None (Some i) → ⊥
-      no e = cc
-  first-values_of (j ∷ order) i own is here = ap (λ (o : Option ℕ). by o) is ∙ ap Some (sym here)
-    where
-      by : Option ℕ → Option (List ℤ)
-      by None = None
-      by (Some n) = Some (get_or (node_values_at parts m) n [])
+  -- the values of the first one
+  pub head-values_of : (order : List ℕ) (d : ℕ) → 0 < length order → get_or (values_of parts m order) 0 [] ≡ get_or (node_values_at parts m) (get_or order 0 d) []
+  head-values_of [] d some = absurd (omega (arith, some))
+  head-values_of (i ∷ order) d some = refl
 
-  pub halves-values_of : (order : List ℕ) → values_of parts m (first_half order) ++ values_of parts m (second_half order) ≡ values_of parts m order
-  halves-values_of order = sym (map-append (λ i. get_or (node_values_at parts m) i []) (first_half order) (second_half order)) ∙ ap (λ (l : List ℕ). values_of parts m l) (take-append-drop (length order / 2) order)
+  pub first-values_of : (order : List ℕ) → 0 < length order → slice_get (values_of parts m order) 0 ≡ Some (get_or (values_of parts m order) 0 [])
+  first-values_of [] some = absurd (omega (arith, some))
+  first-values_of (i ∷ order) some = refl
+
+  pub parts-values_of : (count : ℕ) (order : List ℕ) → values_of parts m (take count order) ++ values_of parts m (drop count order) ≡ values_of parts m order
+  parts-values_of count order = sym (map-append (λ i. get_or (node_values_at parts m) i []) (take count order) (drop count order)) ∙ ap (λ (l : List ℕ). values_of parts m l) (take-append-drop count order)
 
   pub order_known : All (λ i. i < length (node_values_at parts m)) (order_at parts m)
   order_known = solving_order_below (node_values_at parts m)

@@ -1,5 +1,5 @@
 -- The certificates of a node at an incoming state, one for each realization.
-use Rattle.std.specs.Prelude.{ℕ, ◌+◌, ◌/◌, ℤ, List, [], ◌∷◌, ◌++◌, length, map, take, drop, get_or, set, replicate, Result, Ok, Err}
+use Rattle.std.specs.Prelude.{ℕ, ◌+◌, ◌/◌, ℤ, Bool, true, false, List, [], ◌∷◌, ◌++◌, length, map, take, drop, get_or, set, replicate, Result, Ok, Err}
 use Rattle.hp_num.specs.Steps.{◌>>=◌}
 use Rattle.hp_parts.specs.declared.parts.ProblemParts.{ProblemParts}
 use Rattle.hp_problem.specs.Validated.{Validated}
@@ -39,11 +39,20 @@ second_half xs = drop (length xs / 2) xs
 abbrev pub answers_to : {Start Chain : Type 0} → Solving Start Chain → Validated → List (List Cut) → ℕ → List ℤ → List (List ℤ) → List Answer
 answers_to v p pools m state values = chain_answers v p m (map (λ (own : List ℤ). stage_at p pools m own state) values)
 
--- the answers to all realizations of the node m, in their order: the first half in one chain, the rest in another
-abbrev pub answers_at : {Start Chain : Type 0} → Solving Start Chain → Validated → List (List Cut) → ℕ → List ℤ → List Answer
-answers_at v p pools m state =
+-- the answers to some realizations of the node m, by their numbers: in one chain, or the first half in one and the rest in another
+abbrev pub answers_in : {Start Chain : Type 0} → Bool → Solving Start Chain → Validated → List (List Cut) → ℕ → List ℤ → List ℕ → List Answer
+answers_in false v p pools m state order = answers_to v p pools m state (values_of p.parts m order)
+answers_in true v p pools m state order = answers_to v p pools m state (values_of p.parts m (first_half order)) ++ answers_to v p pools m state (values_of p.parts m (second_half order))
+
+-- whether the realizations of the node m go in two chains, by the stage problem of the one that is solved first
+abbrev pub are_in_two : {Start Chain : Type 0} → Solving Start Chain → Validated → List (List Cut) → ℕ → List ℤ → Bool
+are_in_two v p pools m state =
     let order : List ℕ = order_at p.parts m in
-    answers_to v p pools m state (values_of p.parts m (first_half order)) ++ answers_to v p pools m state (values_of p.parts m (second_half order))
+    v.in_two (stage_at p pools m (get_or (values_of p.parts m order) 0 []) state) (length order)
+
+-- the answers to all realizations of the node m, in their order
+abbrev pub answers_at : {Start Chain : Type 0} → Solving Start Chain → Validated → List (List Cut) → ℕ → List ℤ → List Answer
+answers_at v p pools m state = answers_in (are_in_two v p pools m state) v p pools m state (order_at p.parts m)
 
 abbrev pub nothing_certified : Certified
 nothing_certified = record { list = []; unanswered = 0 }
@@ -75,6 +84,11 @@ certify_all step found (values ∷ tail) (a ∷ answers) = step found values a >
 -- the realizations with these values, in a chain of their own
 abbrev pub in_chain : {Start Chain : Type 0} → Solving Start Chain → Validated → List (List Cut) → ℕ → ℕ → List ℤ → List (List ℤ) → Result Certified PlanFault
 in_chain v p pools k m state values = certify_all (certify pools (node_at (problem_of p) m) k m state) nothing_certified values (answers_to v p pools m state values)
+
+-- some realizations, by their numbers, in one chain or in two
+abbrev pub in_chains : {Start Chain : Type 0} → Bool → Solving Start Chain → Validated → List (List Cut) → ℕ → ℕ → List ℤ → List ℕ → Result Certified PlanFault
+in_chains false v p pools k m state order = in_chain v p pools k m state (values_of p.parts m order)
+in_chains true v p pools k m state order = in_turn (in_chain v p pools k m state (values_of p.parts m (first_half order))) (in_chain v p pools k m state (values_of p.parts m (second_half order)))
 
 -- a certificate without multipliers
 abbrev pub blank : Certificate

@@ -1,11 +1,12 @@
 // Certificates of a node's realizations, from a solver's answers.
-ghost use Rattle.std.specs.Prelude.{◌≡◌, ◌+◌, ◌<◌, ◌≤◌, ◌-◌, ◌^◌, [], true, length, get_or, All, IfOk};
+ghost use Rattle.std.specs.Prelude.{◌≡◌, ◌+◌, ◌<◌, ◌≤◌, ◌-◌, ◌^◌, [], true, length, get_or, All, IfOk, Some};
 ghost use Rattle.hp_parts.specs.Limits.{are_values};
 ghost use Rattle.hp_problem.specs.Validated.{subproblem_of};
 ghost use Rattle.hp_num.specs.Steps.{GivesOr};
 ghost use Rattle.hp_theory.specs.Problem.{node_at};
 ghost use Rattle.hp_theory.specs.View.{problem_of};
 ghost use Rattle.hp_cut.specs.AtNodes.{PoolsFit};
+ghost use Rattle.hp_lp.specs.Nodes.{stage_in};
 ghost use Rattle.hp_lp.specs.Orders.{node_values_at};
 ghost use Rattle.hp_settle.specs.Faults.{Stops};
 ghost use Rattle.hp_backward.specs.Certifying.{certify, nothing_certified, order_at};
@@ -84,6 +85,7 @@ impl<'a, V: Solver> Visit<'a, V> {
     ) -> Result<StageLp<'a>, Memory>
         requires visit { CanVisit self.now.planner.now.problem.now self.now.pools.now.lists self.now.node self.now.state.now }
         requires values { are_values (subproblem_of self.now.planner.now.problem.now self.now.node) values.now ≡ true }
+        ensures value { IfOk result (λ lp. stage_in self.now.planner.now.problem.now self.now.pools.now.lists self.now.node values.now self.now.state.now ≡ Some lp) }
         ensures stage { IfOk result (IsStageOver self.now.planner.now.problem.now self.now.pools.now.lists self.now.node) }
     {
         stage_problem(

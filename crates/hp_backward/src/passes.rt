@@ -86,9 +86,10 @@ pub struct Pass<'a> {
 /// first, the realizations of the step's node are solved at the step's incoming state over the pools as they then are, and a
 /// cut is appended to the node's pool. The entry holds the certificates of these cuts.
 ///
-/// A node's realizations are solved in an order in which neighbours are alike ([`Planner::order`]). The first half of it,
-/// rounded down, and the rest are two chains of solves beside each other. The entry has the certificates in the order of the
-/// realizations' numbers, and counts the answers that were of no use, those of the forward pass with them.
+/// A node's realizations are solved in an order in which neighbours are alike ([`Planner::order`]). All of it is one chain of
+/// solves; but where the solver says so, its first half, rounded down, is one and the rest another, beside each other. The entry
+/// has the certificates in the order of the realizations' numbers, and counts the answers that were of no use, those of the
+/// forward pass with them.
 ///
 /// Infeasible at the first realization, in the order of solving, that is shown to have no decisions; Range where the size of a
 /// node's certificates passes 2^127 - 1; [`PlanFault::Memory`] where memory was refused. After each of these the cuts

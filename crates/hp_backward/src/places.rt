@@ -8,7 +8,7 @@ use hp_num::{List, Memory};
 use hp_theory::Certificate;
 use std::alloc::Global;
 
-/// So many certificates without multipliers, in the memory of those that are done with.
+/// Makes so many empty certificates, in the memory of those that are done with.
 fn blanks(alloc: Global, spares: &mut Spares, count: usize) -> Result<List<Certificate>, Memory>
     ensures { IfOk result (λ list. list ≡ replicate count blank) }
 {

@@ -1,8 +1,9 @@
-// The realizations of a node in two chains beside each other.
-ghost use Rattle.std.specs.Prelude.{◌≡◌, ◌+◌, ◌<◌, ◌≤◌, length, All, Result, IfOk};
+// The realizations of a node in one chain, or in two beside each other.
+ghost use Rattle.std.specs.Prelude.{◌≡◌, ◌+◌, ◌<◌, ◌≤◌, [], length, get_or, All, Result, IfOk, Some};
 ghost use Rattle.hp_backward.specs.declared.certified.Certified.{Certified};
 ghost use Rattle.hp_settle.specs.declared.plan_fault.PlanFault.{PlanFault};
 ghost use Rattle.hp_num.specs.Steps.{GivesOr};
+ghost use Rattle.hp_lp.specs.Nodes.{stage_in};
 ghost use Rattle.hp_lp.specs.Orders.{node_values_at};
 ghost use Rattle.hp_lp.specs.Ready.{AreReady};
 ghost use Rattle.hp_backward.specs.Certifying.{both_certified, certified, certified_in_order, first_half, in_chain, in_turn, order_at, second_half, values_of};
@@ -124,62 +125,30 @@ fn beside_each_other<R: Threads, V: Solver>(
     both(spares, first, second)
 }
 
-/// Like `beside_each_other`, with the chains one after the other, over one stage problem.
-fn one_after_the_other<V: Solver>(
-    work: &mut Workspace<V>,
-    here: &Visit<V>,
-    left: &[usize],
-    right: &[usize],
-    lp: &mut StageLp,
-) -> Result<Certified, PlanFault>
-    requires visit { CanVisit here.now.planner.now.problem.now here.now.pools.now.lists here.now.node here.now.state.now }
-    requires left { All (λ i. i < length (node_values_at here.now.planner.now.problem.now.parts here.now.node)) left.now }
-    requires right { All (λ i. i < length (node_values_at here.now.planner.now.problem.now.parts here.now.node)) right.now }
-    requires few { length left.now + length right.now ≤ 100 }
-    requires stage { IsStageOver here.now.planner.now.problem.now here.now.pools.now.lists here.now.node lp.old }
-    ensures value { GivesOr Stops (λ found. found) result (in_turn
-        (in_chain (V.does here.now.planner.now.solver.now) here.now.planner.now.problem.now here.now.pools.now.lists here.now.iteration here.now.node here.now.state.now (values_of here.now.planner.now.problem.now.parts here.now.node left.now))
-        (in_chain (V.does here.now.planner.now.solver.now) here.now.planner.now.problem.now here.now.pools.now.lists here.now.iteration here.now.node here.now.state.now (values_of here.now.planner.now.problem.now.parts here.now.node right.now))) }
-    ensures few { IfOk result (λ found. found.unanswered ≤ 100) }
-{
-    let first = certify_over(work, here, left, lp)?;
-    let second = certify_over(work, here, right, lp)?;
-    Ok(joined(&mut work.spares, first, second)?)
-}
-
-/// Like `beside_each_other` where a thread is worth it, by a stage problem of the node, and else like `one_after_the_other`.
-fn in_two_chains<R: Threads, V: Solver>(
+/// Certifies a node's realizations in their order, by the stage problem of the first one: in one chain or, where the solver says
+/// so, the first half in one and the rest in another, beside each other.
+fn in_chains<R: Threads, V: Solver>(
     rt: &R,
     work: &mut Workspace<V>,
     here: &Visit<V>,
-    left: &[usize],
-    right: &[usize],
     lp: &mut StageLp,
 ) -> Result<Certified, PlanFault>
     requires visit { CanVisit here.now.planner.now.problem.now here.now.pools.now.lists here.now.node here.now.state.now }
-    requires left { All (λ i. i < length (node_values_at here.now.planner.now.problem.now.parts here.now.node)) left.now }
-    requires right { All (λ i. i < length (node_values_at here.now.planner.now.problem.now.parts here.now.node)) right.now }
-    requires few { length left.now + length right.now ≤ 100 }
-    requires stage { IsStageOver here.now.planner.now.problem.now here.now.pools.now.lists here.now.node lp.old }
-    ensures value { GivesOr Stops (λ found. found) result (in_turn
-        (in_chain (V.does here.now.planner.now.solver.now) here.now.planner.now.problem.now here.now.pools.now.lists here.now.iteration here.now.node here.now.state.now (values_of here.now.planner.now.problem.now.parts here.now.node left.now))
-        (in_chain (V.does here.now.planner.now.solver.now) here.now.planner.now.problem.now here.now.pools.now.lists here.now.iteration here.now.node here.now.state.now (values_of here.now.planner.now.problem.now.parts here.now.node right.now))) }
+    requires stage { stage_in here.now.planner.now.problem.now here.now.pools.now.lists here.now.node (get_or (values_of here.now.planner.now.problem.now.parts here.now.node (order_at here.now.planner.now.problem.now.parts here.now.node)) 0 []) here.now.state.now ≡ Some lp.old }
+    ensures value { GivesOr Stops (λ found. found) result
+        (certified_in_order (V.does here.now.planner.now.solver.now) here.now.planner.now.problem.now here.now.pools.now.lists here.now.iteration here.now.node here.now.state.now) }
     ensures few { IfOk result (λ found. found.unanswered ≤ 100) }
 {
-    if here
-        .planner
-        .solver()
-        .worth_a_thread(lp, left.len() + right.len())
-    {
-        beside_each_other(rt, work.alloc(), &mut work.spares, here, left, right)
-    } else {
-        one_after_the_other(work, here, left, right, lp)
+    let order = here.order();
+    if !here.planner.solver().in_two_chains(lp, order.len()) {
+        return certify_over(work, here, order, lp);
     }
+    let (left, right) = halves(order);
+    beside_each_other(rt, work.alloc(), &mut work.spares, here, left, right)
 }
 
-/// Certifies a node's realizations in their order: the first half in one chain, the rest in another. The chains go beside each
-/// other where that is worth a thread; the answer is the same. The stage problem is in the workspace's memory, which is free
-/// again afterwards.
+/// Certifies a node's realizations in their order. Their stage problem is in the workspace's memory, which is free again
+/// afterwards.
 fn certified_in_order<R: Threads, V: Solver>(
     rt: &R,
     work: &mut Workspace<V>,
@@ -191,10 +160,9 @@ fn certified_in_order<R: Threads, V: Solver>(
     ensures count { IfOk result (λ found. length found.list ≡ length (order_at here.now.planner.now.problem.now.parts here.now.node)) }
     ensures few { IfOk result (λ found. found.unanswered ≤ 100) }
 {
-    let order = here.order();
-    let (left, right) = halves(order);
-    let mut lp = here.stage(&mut work.stages, here.own(order[0]))?;
-    let found = in_two_chains(rt, work, here, left, right, &mut lp);
+    let first = here.own(here.order()[0]);
+    let mut lp = here.stage(&mut work.stages, first)?;
+    let found = in_chains(rt, work, here, &mut lp);
     work.give_back(lp);
     found
 }

@@ -1,5 +1,5 @@
 // The boxed dual simplex method, on a table that is pivoted in place.
-ghost use Rattle.std.specs.Prelude.{◌≡◌, ◌+◌, ◌*◌, ◌^◌, ◌<◌, ℕ, length, IfOk, OnOk, ⊤};
+ghost use Rattle.std.specs.Prelude.{◌≡◌, ◌+◌, ◌*◌, ◌^◌, ◌<◌, ℕ, true, length, IfOk, OnOk, ⊤};
 ghost use Rattle.std.specs.Coded.{Unit-prop};
 ghost use Rattle.hp_solver.specs.declared.programs.Program.{Program};
 ghost use Rattle.hp_solver.specs.declared.programs.Answer.{Answer};
@@ -205,7 +205,7 @@ impl Solver for DualSimplex {
 
     type Chain = TableauRoom;
 
-    ghost does = { λ _. record { started = λ _. tt; begun = λ _ _. tt; next = λ _ lp. (solve_of lp, tt) } };
+    ghost does = { λ _. record { started = λ _. tt; begun = λ _ _. tt; next = λ _ lp. (solve_of lp, tt); in_two = λ _ _. true } };
 
     ghost suits = { λ _ _ _. ⊤ };
 
@@ -235,5 +235,9 @@ impl Solver for DualSimplex {
     ) -> Result<Answer, Memory> {
         let program = lp.program(alloc)?;
         solve_in(alloc, &mut chain.tableau, &program)
+    }
+
+    fn in_two_chains(&self, _lp: &StageLp, _solves: usize) -> bool {
+        true
     }
 }

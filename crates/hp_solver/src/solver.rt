@@ -11,7 +11,8 @@ use hp_num::Memory;
 use std::alloc::Global;
 
 /// A solver, known by what it does: the start that it makes for a node, the state of a chain of solves before its first
-/// program, and the answer to a program with the state of the chain after it. The answers need not be right.
+/// program, the answer to a program with the state of the chain after it, and how many solves go in two chains. The answers
+/// need not be right.
 pub trait Solver: Sync {
     /// The start that is made for a node, before any solve.
     type Start: Drop + Send + Sync;
@@ -66,9 +67,8 @@ pub trait Solver: Sync {
         ensures fits { OnOk result ((other : Program) → IsLike lp.now other
             → fits self.now chain.new other) };
 
-    /// Tells whether so many solves, of programs like this one, take so long that half of them are worth a thread of their own.
-    /// No answer depends on it.
-    fn worth_a_thread(&self, _lp: &StageLp, _solves: usize) -> bool {
-        true
-    }
+    /// Tells whether so many solves, of programs like this one, go in two chains, half of them in each. Two chains may go beside
+    /// each other on two threads, and one chain begins less often, which takes less work.
+    fn in_two_chains(&self, lp: &StageLp, solves: usize) -> bool
+        ensures { result ≡ (does self.now).in_two lp.now solves };
 }

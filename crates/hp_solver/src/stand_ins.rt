@@ -1,5 +1,5 @@
 // Solvers that solve nothing, for tests.
-ghost use Rattle.std.specs.Prelude.{◌≡◌, IfOk, OnOk, take, ⊤};
+ghost use Rattle.std.specs.Prelude.{◌≡◌, IfOk, OnOk, take, true, ⊤};
 ghost use Rattle.std.specs.Coded.{Unit-prop};
 ghost use Rattle.hp_solver.specs.declared.programs.Program.{Program};
 ghost use Rattle.hp_solver.specs.declared.programs.Answer.{Answer};
@@ -34,7 +34,7 @@ impl Solver for Zero {
 
     type Chain = ();
 
-    ghost does = { λ _. record { started = λ _. tt; begun = λ _ _. tt; next = λ _ lp. (zero_of lp, tt) } };
+    ghost does = { λ _. record { started = λ _. tt; begun = λ _ _. tt; next = λ _ lp. (zero_of lp, tt); in_two = λ _ _. true } };
 
     ghost suits = { λ _ _ _. ⊤ };
 
@@ -59,6 +59,10 @@ impl Solver for Zero {
     fn solve(&self, alloc: Global, _chain: &mut (), lp: &StageLp) -> Result<Answer, Memory> {
         all_zero(alloc, lp)
     }
+
+    fn in_two_chains(&self, _lp: &StageLp, _solves: usize) -> bool {
+        true
+    }
 }
 
 /// Gives the same answer to each program, whatever its lengths.
@@ -81,7 +85,7 @@ impl Solver for Liar {
 
     type Chain = ();
 
-    ghost does = { λ liar. record { started = λ _. tt; begun = λ _ _. tt; next = λ _ _. (liar.answer, tt) } };
+    ghost does = { λ liar. record { started = λ _. tt; begun = λ _ _. tt; next = λ _ _. (liar.answer, tt); in_two = λ _ _. true } };
 
     ghost suits = { λ _ _ _. ⊤ };
 
@@ -109,6 +113,10 @@ impl Solver for Liar {
             point: copied(alloc, self.answer.point.as_slice())?,
             duals: Duals::new(alloc, self.answer.duals.whole(alloc)?),
         })
+    }
+
+    fn in_two_chains(&self, _lp: &StageLp, _solves: usize) -> bool {
+        true
     }
 }
 
@@ -182,7 +190,7 @@ impl Solver for Meeting {
 
     type Chain = ();
 
-    ghost does = { λ _. record { started = λ _. tt; begun = λ _ _. tt; next = λ _ lp. (zero_of lp, tt) } };
+    ghost does = { λ _. record { started = λ _. tt; begun = λ _ _. tt; next = λ _ lp. (zero_of lp, tt); in_two = λ _ _. true } };
 
     ghost suits = { λ _ _ _. ⊤ };
 
@@ -207,5 +215,9 @@ impl Solver for Meeting {
     fn solve(&self, alloc: Global, _chain: &mut (), lp: &StageLp) -> Result<Answer, Memory> {
         self.visit();
         all_zero(alloc, lp)
+    }
+
+    fn in_two_chains(&self, _lp: &StageLp, _solves: usize) -> bool {
+        true
     }
 }

@@ -1,5 +1,5 @@
 -- Answers along a chain: each program goes on from the table that the one before it left.
-use Rattle.std.specs.Prelude.{Bool, true, false, not, List, length, Option, Some, None, nat_lt, if◌then◌else◌}
+use Rattle.std.specs.Prelude.{ℕ, ◌+◌, ◌*◌, ◌^◌, Bool, true, false, not, List, length, Option, Some, None, nat_lt, nat_le, if◌then◌else◌}
 use Rattle.std.specs.Option.{option_map, option_and_then}
 use Rattle.hp_solver.specs.declared.programs.Program.{Program}
 use Rattle.hp_solver.specs.declared.programs.Answer.{Answer}
@@ -117,3 +117,8 @@ started_of lp = option_map (λ t. readied t (go_of lp t)) (first_of lp)
 -- the table of a chain that begins with a program
 unfoldable pub begun_of : Option WarmTable → Program → Option WarmTable
 begun_of start lp = option_and_then (widened lp) start
+
+-- whether so many solves of programs like one go in two chains: they take long, where the cells of own rows and of eight cuts' rows
+-- are 2^20 or more in all solves together
+unfoldable pub takes_long : Program → ℕ → Bool
+takes_long lp solves = nat_le (2 ^ 20) (length lp.columns * (lp.own + 8) * solves)

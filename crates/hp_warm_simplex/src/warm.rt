@@ -1,5 +1,5 @@
 // The warm simplex, as a solver of one program after another.
-ghost use Rattle.std.specs.Prelude.{◌≡◌, Option, Some, IfOk, IfSome, OnOk};
+ghost use Rattle.std.specs.Prelude.{◌≡◌, ◌+◌, ◌*◌, ◌^◌, nat_le, Option, Some, IfOk, IfSome, OnOk};
 ghost use Rattle.hp_solver.specs.declared.programs.Program.{Program};
 ghost use Rattle.hp_solver.specs.declared.programs.Answer.{Answer};
 ghost use Rattle.hp_solver.specs.Proper.{IsProper, IsReference, Extends, IsLike};
@@ -7,7 +7,7 @@ ghost use Rattle.hp_warm_scale.specs.First.{first_of};
 ghost use Rattle.hp_warm_scale.specs.Fitting.{Suits, Fits};
 ghost use Rattle.hp_warm_simplex.specs.Going.{go_of};
 ghost use Rattle.hp_warm_simplex.specs.Suiting.{suits_is_fact};
-ghost use Rattle.hp_warm_simplex.specs.Chains.{readied, started_of, begun_of, next_of_chain};
+ghost use Rattle.hp_warm_simplex.specs.Chains.{readied, started_of, begun_of, next_of_chain, takes_long};
 
 use crate::attempts::{is_good, next_answer, widened};
 use crate::going::go;
@@ -20,8 +20,9 @@ use hp_warm_table::WarmTable;
 use std::alloc::Global;
 use std::marker::Model;
 
-// Below so much work a second thread costs more of the processors' time than it saves on the clock. A column, a row and a
-// solve take some 3 ns (measured), so this is some 3 ms, where a thread with memory of its own takes some 0.1 ms.
+// Below so much work a second chain, which begins once more, costs more of the processors' time than a second thread saves on
+// the clock. A column, a row and a solve take some 3 ns (measured), so this is some 3 ms, where a thread with memory of its own
+// takes some 0.1 ms.
 const LEAST_WORK: usize = 1 << 20;
 
 // The number of cuts that have rows in a table, by and large.
@@ -134,12 +135,20 @@ fn begun(
     }
 }
 
+// Tells whether so many solves take long, by the cells of the own rows and of the rows of a few cuts.
+fn takes_long(columns: usize, own: usize, solves: usize) -> bool
+    ensures { result ≡ nat_le (2 ^ 20) (columns * (own + 8) * solves) }
+{
+    let rows = own.saturating_add(FEW_CUTS);
+    columns.saturating_mul(rows).saturating_mul(solves) >= LEAST_WORK
+}
+
 impl Solver for WarmSimplex {
     type Start = Option<WarmTable>;
 
     type Chain = Chain;
 
-    ghost does = { λ _. record { started = started_of; begun = begun_of; next = next_of_chain } };
+    ghost does = { λ _. record { started = started_of; begun = begun_of; next = next_of_chain; in_two = takes_long } };
 
     ghost suits = { λ _ start lp. IfSome start (λ t. Suits t lp) };
 
@@ -170,14 +179,8 @@ impl Solver for WarmSimplex {
         Ok(answer)
     }
 
-    // Decides by the number of cells of the tables and of cuts that are looked up, all together.
-    fn worth_a_thread(&self, lp: &StageLp, solves: usize) -> bool {
-        let own = lp.own();
-        let cells = lp
-            .columns()
-            .len()
-            .saturating_mul(own.saturating_add(FEW_CUTS));
-        let cuts = lp.row_count().saturating_sub(own).saturating_mul(2);
-        cells.saturating_add(cuts).saturating_mul(solves) >= LEAST_WORK
+    #[tactic(auto, unfolding(crate::specs::Chains::takes_long))]
+    fn in_two_chains(&self, lp: &StageLp, solves: usize) -> bool {
+        takes_long(lp.columns().len(), lp.own(), solves)
     }
 }

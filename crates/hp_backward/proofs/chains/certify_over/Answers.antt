@@ -1,10 +1,8 @@
-use Rattle.std.proofs.Common.{◌≡◌, List, Some, sym, subst}
+use Rattle.std.proofs.Common.{List, [], get_or, subst}
 use Rattle.hp_num.specs.Steps.{GivesOr}
-use Rattle.hp_problem.specs.Validated.{Validated}
 use Rattle.hp_theory.specs.Problem.{node_at}
 use Rattle.hp_theory.specs.View.{problem_of}
 use Rattle.hp_solver.specs.declared.programs.Answer.{Answer}
-use Rattle.hp_lp.specs.Nodes.{stage_in}
 use Rattle.hp_backward.specs.Certifying.{certify, certify_all, nothing_certified, values_of}
 use Rattle.hp_settle.specs.Faults.{Stops}
 use Rattle.hp_backward.proofs.Begun.{begins}
@@ -16,12 +14,8 @@ returns-clause-value g c =
     let here = c.args.here.now in
     let p = here.planner.now.problem.now in
     let pools = here.pools.now.lists in
-    let t = c.requires.stage in
-    let sides =
-    subst (λ (q : Validated). stage_in q pools here.node t.values t.state ≡ Some c.args.lp.now → stage_in q pools here.node c.own.result.now here.state.now ≡ Some c.set_sides.new.lp)
-    c.problem-problem.ensures (c.set_sides.ensures.value pools t.values t.state)
-    in
-    subst (λ (found : List Answer). GivesOr Stops (λ found. found) c.certify_in_chain.result (certify_all (certify pools (node_at (problem_of p) here.node) here.iteration here.node here.state.now) nothing_certified (values_of p.parts here.node c.args.order.now) found))
-    (begins (g.V.Solver.does here.planner.now.solver.now) p pools here.node here.state.now (values_of p.parts here.node c.args.order.now) c.own.result.now c.set_sides.new.lp c.in_ok-chain.chain
-    (first-values_of p.parts here.node c.args.order.now c.in-Some.first.now c.own.result.now (sym c.in-Some.ensures.value) c.own.ensures.value) (sides t.is) c.in_ok-chain.ensures.made)
+    let values = values_of p.parts here.node c.args.order.now in
+    subst (λ (found : List Answer). GivesOr Stops (λ found. found) c.certify_in_chain.result (certify_all (certify pools (node_at (problem_of p) here.node) here.iteration here.node here.state.now) nothing_certified values found))
+    (begins (g.V.Solver.does here.planner.now.solver.now) p pools here.node here.state.now values (get_or values 0 []) c.args.lp.now c.in_ok-chain.chain
+    (first-values_of p.parts here.node c.args.order.now c.requires.some) c.requires.stage c.in_ok-chain.ensures.made)
     c.certify_in_chain.ensures.value

@@ -1,33 +1,35 @@
-// A solver on as many threads as are asked for.
+// A solver in as many chains as are asked for.
 ghost use Rattle.std.specs.Prelude.{◌≡◌, IfOk, OnOk};
 ghost use Rattle.hp_solver.specs.declared.programs.Program.{Program};
 ghost use Rattle.hp_solver.specs.declared.programs.Answer.{Answer};
 ghost use Rattle.hp_solver.specs.Proper.{IsProper, IsReference, Extends, IsLike};
+ghost use Rattle.hp_solver.specs.Solving.{Solving};
 ghost use Rattle.hp_solver.specs.Solving.{Solving};
 
 use hp_num::Memory;
 use hp_solver::{Answer, Solver, StageLp};
 use std::alloc::Global;
 
-/// Answers as the solver inside, and says of all solves that half of them are worth a thread of their own, or of none.
+/// Answers as the solver inside, and has all solves go in two chains, half of them in each, or in one.
 #[derive(Drop)]
-pub struct Threaded<'a, V: Solver> {
+pub struct Chained<'a, V: Solver> {
     pub solver: &'a V,
-    pub worth: bool,
+    pub two: bool,
 }
 
-impl<'a, V: Solver> Solver for Threaded<'a, V> {
+impl<'a, V: Solver> Solver for Chained<'a, V> {
     type Start = V::Start;
 
     type Chain = V::Chain;
 
-    ghost does = { λ threaded. V.does threaded.solver.now };
+    ghost does = { λ chained. let own = V.does chained.solver.now in
+        record { started = own.started; begun = own.begun; next = own.next; in_two = λ _ _. chained.two } };
 
-    ghost suits = { λ threaded start lp. V.suits threaded.solver.now start lp };
+    ghost suits = { λ chained start lp. V.suits chained.solver.now start lp };
 
-    ghost suits_is_fact = { λ threaded start lp. V.suits_is_fact threaded.solver.now start lp };
+    ghost suits_is_fact = { λ chained start lp. V.suits_is_fact chained.solver.now start lp };
 
-    ghost fits = { λ threaded chain lp. V.fits threaded.solver.now chain lp };
+    ghost fits = { λ chained chain lp. V.fits chained.solver.now chain lp };
 
     fn start(&self, alloc: Global, lp: &StageLp) -> Result<V::Start, Memory> {
         self.solver.start(alloc, lp)
@@ -47,7 +49,7 @@ impl<'a, V: Solver> Solver for Threaded<'a, V> {
         self.solver.solve(alloc, chain, lp)
     }
 
-    fn worth_a_thread(&self, _lp: &StageLp, _solves: usize) -> bool {
-        self.worth
+    fn in_two_chains(&self, _lp: &StageLp, _solves: usize) -> bool {
+        self.two
     }
 }
