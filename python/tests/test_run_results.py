@@ -19,17 +19,17 @@ from hydroplan.runs import check, evaluate, robust, simulate, train, validate
 class Trained(Folder):
     """A journal of a trained model."""
 
-    def trained(self, model, iterations=20):
+    def trained(self, model, iterations=20, seed=7):
         compiled = model.compile()
-        train(compiled, self.journal, seed=7, iterations=iterations, progress=False)
+        train(compiled, self.journal, seed=seed, iterations=iterations, progress=False)
         return compiled
 
 
 class Checks(Trained):
     def test_cuts_and_water_values(self):
-        compiled = self.trained(three_stages())
+        # by seed 3, as in docs/GUIDE.md: with 200 in store before the first stage a unit more saves 50, and a unit less costs 61.11
+        compiled = self.trained(three_stages(), seed=3)
         found = check(compiled, self.journal)
-        # docs/GUIDE.md: with 200 in store before the first stage a unit more saves 50
         self.assertAlmostEqual(found.water_values("1", {"volume": 200})["volume"], 50, places=3)
         self.assertAlmostEqual(found.value("1", {"volume": "200"}), 25000 / 3, places=3)
         self.assertEqual((found.iterations, found.unanswered, found.rest, found.maximizes), (20, 0, 0, False))

@@ -126,8 +126,9 @@ def measure_rows() -> List[str]:
 
 def measured(line: str) -> List[str]:
     """Returns the lines expected of such a row: for each path how many programs it solved and how many answers were of no use."""
-    _, _, name, _, seed, batch, count = line.split()
-    training = Training(problem_of((LIBRARY / "data" / name).read_bytes()), int(seed), int(batch))
+    _, _, name, solver, seed, batch, count = line.split()
+    two = {"warm-one-chain": False, "warm-twice": False, "warm-two-chains": True}.get(solver)
+    training = Training(problem_of((LIBRARY / "data" / name).read_bytes()), int(seed), int(batch), two)
     training.train(int(count))
     lines = [f"iteration {entry.iteration} solves {sum(1 + len(made) for _, made in entry.steps)} unsettled {entry.unanswered}"
              for entries in training.records for entry in entries]

@@ -37,7 +37,7 @@ class Rows(unittest.TestCase):
 
     def test_there_are_rows(self):
         self.assertEqual(len(command_rows()), 36)
-        self.assertEqual(len(measure_rows()), 5)
+        self.assertEqual(len(measure_rows()), 7)
 
     def test_commands(self):
         for row in command_rows():

@@ -9,12 +9,20 @@ from .drawing import Path, path_of, stream_of
 from .node import UNIT
 from .ordering import solving_order
 from .problem import Problem
-from .program import Answer
+from .program import Answer, Program
 from .settling import Certificate, certificate_of_duals
-from .stages import NoDecision, Solver, node_with_pools
+from .stages import NoDecision, Solver, node_with_pools, program_of
 
 Step = Tuple[int, List[Certificate]]
 """A node, with a certificate for each of its realizations."""
+
+LEAST_WORK = 1 << 20
+"""The cells of all tables together from which on realizations go in two chains."""
+
+
+def takes_long(program: Program, solves: int) -> bool:
+    """Whether so many solves of such programs take long: by the cells of own rows and of eight cuts' rows in all of them together."""
+    return len(program.columns) * (len(program.own) + 8) * solves >= LEAST_WORK
 
 
 @dataclass
@@ -36,10 +44,13 @@ class Stopped:
 
 
 class Training:
-    """Training of a problem by a seed, with so many paths an iteration."""
+    """Training of a problem by a seed, with so many paths an iteration.
 
-    def __init__(self, problem: Problem, seed: int, batch: int = 1) -> None:
-        self.problem, self.seed, self.batch = problem, seed, batch
+    `two`: whether the realizations of a node go in two chains; without it they do where they take long.
+    """
+
+    def __init__(self, problem: Problem, seed: int, batch: int = 1, two: Optional[bool] = None) -> None:
+        self.problem, self.seed, self.batch, self.two = problem, seed, batch, two
         self.pools: Pools = base_pools(problem)
         self.solver = Solver(problem, self.pools)
         self.records: List[List[Entry]] = []
@@ -57,17 +68,25 @@ class Training:
             state = self.solver.left(number, decisions)
         return states
 
+    def in_two_chains(self, number: int, state: Sequence[int]) -> bool:
+        """Whether the realizations of a node go in two chains."""
+        if self.two is not None:
+            return self.two
+        place = self.problem.places[number]
+        return takes_long(program_of(place, self.pools, place.realizations[0].values, state), len(place.realizations))
+
     def certificates(self, number: int, state: Sequence[int], entry: Entry) -> List[Certificate]:
         """The certificates of all realizations of a node at a state, in the order of the file.
 
-        The first half of the solving order is one chain, the rest another. The first in that order without decisions stops it all.
+        The solving order is one chain, or where that takes long its first half is one and the rest another. The first in that order without
+        decisions stops it all.
         """
         place = self.problem.places[number]
         given = [it.values for it in place.realizations]
         order = solving_order(given)
-        half = len(order) // 2
+        count = len(order) // 2 if self.in_two_chains(number, state) else len(order)
         answers: Dict[int, Answer] = {}
-        for part in (order[:half], order[half:]):
+        for part in (order[:count], order[count:]):
             answers.update(zip(part, self.solver.answers(number, self.pools, [given[it] for it in part], state)))
         for it in order:
             entry.unanswered += not self.solver.worth(number, given[it], state, answers[it])
