@@ -105,7 +105,7 @@ fn certify_in_chain<V: Solver>(
 }
 
 /// Certifies these realizations, of which there are some, in a chain of their own, by the stage problem of the first one, whose
-/// sides are set anew for each. The chain's memory is the workspace's, and free again afterwards.
+/// sides are set anew for each other one. The chain's memory is the workspace's, and free again afterwards.
 pub(crate) fn certify_over<V: Solver>(
     work: &mut Workspace<V>,
     here: &Visit<V>,

@@ -3,9 +3,9 @@
 
 mod certified;
 mod chains;
+mod in_chains;
 pub mod passes;
 mod places;
 mod steps_back;
-mod two_chains;
 
 pub use passes::{Pass, backward_pass};

@@ -12,14 +12,14 @@ use std::alloc::Global;
 fn blanks(alloc: Global, spares: &mut Spares, count: usize) -> Result<List<Certificate>, Memory>
     ensures { IfOk result (λ list. list ≡ replicate count blank) }
 {
-    let mut list = spares.certificates.take(alloc);
+    let mut list = spares.certificates.take(alloc).into_vec();
     for _ in 0..count {
         list.push(Certificate {
             rows: List::new(alloc),
             cuts: List::new(alloc),
         })?;
     }
-    Ok(list)
+    Ok(List::from_vec(list))
 }
 
 /// Moves certificates to the places of their realizations, the last one first.

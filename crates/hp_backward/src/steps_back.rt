@@ -15,7 +15,7 @@ ghost use Rattle.hp_settle.specs.Faults.{Stops};
 ghost use Rattle.hp_backward.specs.Sweeping.{made_at, seen, step_back, taken_back, within_range};
 
 use crate::certified::{Certified, Visit};
-use crate::two_chains::certified;
+use crate::in_chains::certified;
 use hp_cut::{Cut, Entry, EntryStep, Pools};
 use hp_dual::write_cut_in_range;
 use hp_lp::{Planner, Workspace};

@@ -14,3 +14,4 @@ pub mod ValidatedCuttable
 pub mod Beside
 pub mod CutSlopes
 pub mod SameFronts
+pub mod Remembered

@@ -1,5 +1,6 @@
 -- The part of A_r that is the same at all values, of the certificates of a list.
-use Rattle.std.specs.Prelude.{◌≡◌, ℕ, ◌+◌, ℤ, ◌+ℤ◌, List, get_or}
+use Rattle.std.specs.Prelude.{ℕ, ◌<◌, ℤ, ◌+ℤ◌, List, length, get_or}
+use Rattle.hp_num.specs.Sums.{entry}
 use Rattle.hp_parts.specs.declared.parts.Node as nodes
 use Rattle.hp_parts.specs.declared.parts.Subproblem.{Subproblem}
 use Rattle.hp_theory.specs.declared.cut.Cut.{Cut}
@@ -15,6 +16,6 @@ fixed_at k pools n s c = over_successors pools n.successors c.cuts (λ cut. cut.
 abbrev pub IsFixedAt : ℤ → List (List Cut) → nodes.Node → Subproblem → List Certificate → ℕ → ℤ → Type 0
 IsFixedAt k pools n s list r z = (d : Certificate) → Congruent z (fixed_at k pools n s (get_or list r d))
 
--- z is that of the certificate before r, where there is one
-abbrev pub IsFixedBefore : ℤ → List (List Cut) → nodes.Node → Subproblem → List Certificate → ℕ → ℤ → Type 0
-IsFixedBefore k pools n s list r z = (q : ℕ) → r ≡ q + 1 → IsFixedAt k pools n s list q z
+-- these are those of the certificates before r, as many as there are
+abbrev pub AreFixedBefore : ℤ → List (List Cut) → nodes.Node → Subproblem → List Certificate → ℕ → List ℤ → Type 0
+AreFixedBefore k pools n s list r parts = (q : ℕ) → q < r → q < length parts → IsFixedAt k pools n s list q (entry parts q)

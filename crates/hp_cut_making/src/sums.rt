@@ -1,11 +1,11 @@
 // The first number of a cut, before the division: A_r of a realization, and their sum.
-ghost use Rattle.std.specs.Prelude.{◌≡◌, ◌-◌, ◌^◌, ◌<◌, ◌≤◌, ℕ, ℤ, pos, ◌+ℤ◌, ◌*ℤ◌, ◌≤ℤ◌, List, [], length, All};
+ghost use Rattle.std.specs.Prelude.{◌≡◌, ◌-◌, ◌^◌, ◌<◌, ◌≤◌, ℕ, ℤ, pos, ◌+ℤ◌, ◌*ℤ◌, ◌≤ℤ◌, List, [], length, get_or, set, All, IfSome};
 ghost use Rattle.hp_theory.specs.Problem.{with_weights};
 ghost use Rattle.hp_theory.specs.View.{node_of};
 ghost use Rattle.hp_theory.specs.declared.cut.Certificate.{Certificate};
 ghost use Rattle.hp_theory.specs.CutOf.{scale, alpha_sum};
 ghost use Rattle.hp_cut_making.specs.Congruent.{Congruent};
-ghost use Rattle.hp_cut_making.specs.FixedParts.{IsFixedAt, IsFixedBefore};
+ghost use Rattle.hp_cut_making.specs.FixedParts.{AreFixedBefore, IsFixedAt};
 ghost use Rattle.hp_cut_making.specs.Parts.{Limited, PairsThere, ReducedFit, costs_at_scale, over_successors, least_at, constant_at_scale};
 ghost use Rattle.hp_cut_making.specs.Tabled.{Tabled, IsScaled};
 
@@ -16,8 +16,11 @@ use crate::same::is_same;
 use crate::scaled_costs::{ScaledCosts, write_costs};
 use crate::scales::{SCALE, scale};
 use crate::wrapping::{wrapping_add, wrapping_add_product};
-use hp_parts::MOST_DECISIONS;
+use hp_parts::{MOST_DECISIONS, MOST_REALIZATIONS};
 use hp_theory::Certificate;
+
+/// How many realizations before one are asked whether they have the same certificate.
+const NEAR_BY: usize = 16;
 
 /// The number of decisions up to which shorter tables are enough, which take less time to clear.
 const FEW_DECISIONS: usize = 32;
@@ -122,15 +125,30 @@ pub fn constant_over(
     wrapping_add(staged, fixed)
 }
 
-/// The part of A_r that is the same at all values, for the certificate of a realization, modulo 2^128. Where the one before is the
-/// same certificate, its part is taken over. The table has room for the decisions' reduced costs.
+/// Finds the last of the realizations near by, before a number, that has the same certificate. None where there is none.
+fn same_before(list: &[Certificate], end: usize, certificate: &Certificate) -> Option<usize>
+    requires { end ≤ length list.now }
+    ensures { IfSome result (λ s. (s < end) × (get_or list.now s certificate.now ≡ certificate.now)) }
+{
+    for k in 0..end.min(NEAR_BY) {
+        let s = end - 1 - k;
+        if is_same(&list[s], certificate) {
+            return Some(s);
+        }
+    }
+    None
+}
+
+/// The part of A_r that is the same at all values, for the certificate of a realization, modulo 2^128. Where a realization
+/// near by before it has the same certificate, its part is taken over from those that are known. The table has room for the
+/// decisions' reduced costs.
 fn fixed_at(
     reduced: &mut [i128],
+    known: &[i128],
     costs: &ScaledCosts,
     here: &NodeAt,
     list: &[Certificate],
     realization: usize,
-    before: i128,
 ) -> i128
     requires limits { Limited here.now.node.now here.now.subproblem.now }
     requires known { All (λ m. m < length here.now.pools.now.lists) here.now.node.now.successors }
@@ -139,22 +157,33 @@ fn fixed_at(
     requires costs { IsScaled costs.now here.now.subproblem.now }
     requires small { All (ReducedFit costs.now.scale here.now.pools.now.lists here.now.node.now here.now.subproblem.now) list.now }
     requires inside { realization < length list.now }
-    requires before { IsFixedBefore costs.now.scale here.now.pools.now.lists here.now.node.now here.now.subproblem.now list.now realization before }
+    requires before { AreFixedBefore costs.now.scale here.now.pools.now.lists here.now.node.now here.now.subproblem.now list.now realization known.now }
     ensures count { length reduced.new ≡ length reduced.old }
     ensures value { IsFixedAt costs.now.scale here.now.pools.now.lists here.now.node.now here.now.subproblem.now list.now realization result }
 {
     let certificate = &list[realization];
-    if 0 < realization && is_same(&list[realization - 1], certificate) {
-        return before;
+    let end = realization.min(known.len());
+    if let Some(s) = same_before(list, end, certificate) {
+        return known[s];
     }
     costs.copy_into(reduced);
     fixed_part(reduced, here, certificate)
 }
 
-/// A: the sum over the realizations of the weight times A_r, modulo 2^128. The table has room for the decisions' reduced
-/// costs.
+/// Keeps what is known of a realization, where there is room.
+fn keep(known: &mut [i128], realization: usize, part: i128)
+    ensures { known.new ≡ set known.old realization part }
+{
+    if realization < known.len() {
+        known[realization] = part;
+    }
+}
+
+/// A: the sum over the realizations of the weight times A_r, modulo 2^128. The first table has room for the decisions' reduced
+/// costs, the other for what is known of realizations.
 fn weighted_constants(
     reduced: &mut [i128],
+    known: &mut [i128],
     costs: &ScaledCosts,
     here: &NodeAt,
     list: &[Certificate],
@@ -172,10 +201,10 @@ fn weighted_constants(
         → Congruent result (alpha_sum here.now.pools.now.lists (with_weights here.now.weights.now (node_of here.now.node.now here.now.subproblem.now low high)) list.now) }
 {
     let mut sum: i128 = 0;
-    let mut fixed: i128 = 0;
     for r in 0..here.weights.len() {
         let values = here.node.values.as_slice()[r].as_slice();
-        fixed = fixed_at(reduced, costs, here, list, r, fixed);
+        let fixed = fixed_at(reduced, known, costs, here, list, r);
+        keep(known, r, fixed);
         let constant = constant_over(fixed, costs.scale, here, values, &list[r]);
         sum = wrapping_add_product(sum, i128::from(here.weights[r]), constant);
     }
@@ -205,7 +234,14 @@ fn constant_sum_by(
     let scale = scale(here.node);
     write_costs(costs, scale, decisions);
     let costs = ScaledCosts { scale, costs };
-    weighted_constants(&mut reduced[..decisions.len()], &costs, here, list)
+    let mut known = [0; MOST_REALIZATIONS];
+    weighted_constants(
+        &mut reduced[..decisions.len()],
+        &mut known,
+        &costs,
+        here,
+        list,
+    )
 }
 
 /// A: the sum over the realizations of the weight times A_r, modulo 2^128.

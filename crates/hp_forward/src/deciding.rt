@@ -1,5 +1,5 @@
 // Decisions at a node.
-ghost use Rattle.std.specs.Prelude.{◌≡◌, ◌<◌, ◌≤◌, ◌^◌, ◌/◌, ℕ, ℤ, pos, ◌*ℤ◌, true, length, get_or, map, nat_abs, Contains, Some, IfOk};
+ghost use Rattle.std.specs.Prelude.{◌≡◌, ◌<◌, ◌≤◌, ◌^◌, ◌/◌, ℕ, ℤ, pos, ◌*ℤ◌, true, [], length, get_or, map, nat_abs, Contains, Some, IfOk};
 ghost use Rattle.hp_num.specs.Sums.{entry, floor_over, table};
 ghost use Rattle.hp_parts.specs.declared.parts.Decision.{Decision};
 ghost use Rattle.hp_parts.specs.Limits.{are_values};
@@ -93,13 +93,18 @@ fn decision_at(point: &[Fx], at: usize, decision: &Decision) -> i128
     boxed(decision, rescaled(value_at(point, at, decision.low)))
 }
 
-/// The decisions at a point.
-fn decisions_at(alloc: Global, decisions: &[Decision], point: &[Fx]) -> Result<List<i128>, Memory>
+/// The decisions at a point, in the memory of a list without values.
+fn decisions_at(
+    over: List<i128>,
+    decisions: &[Decision],
+    point: &[Fx],
+) -> Result<List<i128>, Memory>
+    requires { over ≡ [] }
     ensures { let lows = map (λ (d : Decision). d.low) decisions.now in
         let highs = map (λ (d : Decision). d.high) decisions.now in
         IfOk result (λ found. found ≡ table (length lows) (λ j. decision_from_point point.now j (entry lows j) (entry highs j))) }
 {
-    let mut found = List::from_vec(Vec::with_capacity(alloc, decisions.len())?);
+    let mut found = over;
     for (j, decision) in decisions.iter().enumerate() {
         found.push(decision_at(point, j, decision))?;
     }
@@ -128,20 +133,22 @@ pub fn next_state(alloc: Global, outs: &[u32], decisions: &[i128]) -> Result<Lis
     Ok(found)
 }
 
-/// Gives the decisions by an answer, and the state that leaves the node.
+/// Gives the decisions by an answer, in the memory of a list without values, and the state that leaves the node.
 fn decided_of(
     alloc: Global,
+    over: List<i128>,
     subproblem: &Subproblem,
     answer: &Answer,
     unanswered: bool,
 ) -> Result<Decided, Memory>
+    requires { over ≡ [] }
     ensures { let lows = map (λ (d : Decision). d.low) subproblem.now.decisions in
         let highs = map (λ (d : Decision). d.high) subproblem.now.decisions in
         let u = table (length lows) (λ j. decision_from_point answer.now.point j (entry lows j) (entry highs j)) in
         IfOk result (λ found. found ≡ record { kind = answer.now.kind; unanswered = unanswered; decisions = u; next = map (λ o. entry u o) subproblem.now.outs }) }
 {
     let decisions = decisions_at(
-        alloc,
+        over,
         subproblem.decisions.as_slice(),
         answer.point.as_slice(),
     )?;
@@ -154,20 +161,28 @@ fn decided_of(
     })
 }
 
-/// Gives the infeasibility, or the decisions.
+/// Gives the infeasibility, or the decisions, in the memory of a list without values.
 fn decide_by(
     alloc: Global,
+    over: List<i128>,
     problem: &Problem,
     input: &StageInput,
     answer: &Answer,
     classified: Classified,
 ) -> Result<Decided, PlanFault>
-    requires { input.now.node < length problem.now.parts.nodes }
+    requires known { input.now.node < length problem.now.parts.nodes }
+    requires over { over ≡ [] }
     ensures { GivesOrRefutes result (decide_by problem.now input.now.run input.now.node input.now.values.now input.now.state.now answer.now classified) }
 {
     match classified {
-        Classified::Found => Ok(decided_of(alloc, problem.sub(input.node), answer, false)?),
-        Classified::Unanswered => Ok(decided_of(alloc, problem.sub(input.node), answer, true)?),
+        Classified::Found => Ok(decided_of(alloc, over, problem.sub(input.node), answer, false)?),
+        Classified::Unanswered => Ok(decided_of(
+            alloc,
+            over,
+            problem.sub(input.node),
+            answer,
+            true,
+        )?),
         Classified::Infeasibility(rows) => {
             let StageInput {
                 run,
@@ -219,5 +234,7 @@ pub fn decide<V: Solver>(
     } = *input;
     let answer = solve_stage(work, planner, pools, node, values, state)?;
     let classified = classify(work.alloc(), problem, node, values, state, &answer)?;
-    decide_by(work.alloc(), problem, input, &answer, classified)
+    let alloc = work.alloc();
+    let over = work.decisions.take(alloc);
+    decide_by(alloc, over, problem, input, &answer, classified)
 }

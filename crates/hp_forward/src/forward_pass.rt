@@ -85,6 +85,7 @@ fn step_on<V: Solver>(
         state: progress.state.as_slice(),
     };
     let decided = decide(work, planner, pools, &input)?;
+    work.decisions.give(decided.decisions);
     let state = mem::replace(&mut progress.state, decided.next);
     progress.trajectory.states.push(state)?;
     progress.trajectory.unanswered += u32::from(decided.unanswered);

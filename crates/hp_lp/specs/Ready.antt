@@ -1,4 +1,4 @@
--- What a solver makes ready for the nodes of a problem, before it solves any.
+-- Says what a solver makes ready for each node of a problem, before it solves any.
 use Rattle.std.specs.Prelude.{◌≡◌, ℕ, List, length, slice_get, Some}
 use Rattle.std.proofs.Props.{props}
 use Rattle.hp_problem.specs.Validated.{Validated}

@@ -9,6 +9,7 @@ ghost use Rattle.hp_lp.specs.Spans.{Spans};
 use crate::cut_values::{greatest_value, least_value, most_from};
 use crate::out_boxes::out_boxes;
 use crate::scales::{scaled, weighted, whole};
+use crate::stage_memory::StageMemory;
 use hp_cut::{OutBox, Pools};
 use hp_num::{List, Memory};
 use hp_parts::{Decision, Subproblem};
@@ -85,9 +86,9 @@ fn future_column(
     }
 }
 
-/// Appends the columns of the successors.
+/// Appends the columns of the successors, in the memory that is lent.
 pub(crate) fn push_future_columns(
-    alloc: Global,
+    memory: &mut StageMemory,
     columns: &mut List<Column>,
     subproblem: &Subproblem,
     pools: &Pools,
@@ -102,11 +103,13 @@ pub(crate) fn push_future_columns(
     requires known { list_all (λ o. nat_lt o (length subproblem.now.decisions)) subproblem.now.outs ≡ true }
     ensures { OnOk result (columns.new ≡ columns.old ++ future_columns subproblem.now pools.now.lists successors.now weights.now) }
 {
-    let boxes = out_boxes(alloc, subproblem)?;
+    let alloc = memory.alloc();
+    let boxes = out_boxes(memory.boxes.take(alloc), subproblem)?;
     for i in 0..successors.len() {
         let successor = successors[i] as usize;
         let column = future_column(subproblem, boxes.as_slice(), weights[i], pools, successor);
         columns.push(column)?;
     }
+    memory.boxes.give(boxes);
     Ok(())
 }

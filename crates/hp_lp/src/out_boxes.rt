@@ -1,5 +1,5 @@
 // The boxes of the states that leave a stage.
-ghost use Rattle.std.specs.Prelude.{◌≡◌, ◌<◌, true, length, nat_lt, IfOk};
+ghost use Rattle.std.specs.Prelude.{◌≡◌, ◌<◌, true, [], length, nat_lt, IfOk};
 ghost use Rattle.std.specs.List.{list_all};
 ghost use Rattle.hp_num.specs.Sums.{entry};
 ghost use Rattle.hp_problem.specs.Validated.{out_lows, out_highs};
@@ -8,7 +8,6 @@ ghost use Rattle.hp_lp.specs.OutBoxes.{out_box, out_boxes};
 use hp_cut::OutBox;
 use hp_num::{List, Memory};
 use hp_parts::{Decision, Subproblem};
-use std::alloc::Global;
 
 /// The decision that leaves the stage as a state.
 pub(crate) fn out_decision(subproblem: &Subproblem, state: usize) -> &Decision
@@ -32,12 +31,14 @@ fn out_box(subproblem: &Subproblem, state: usize) -> OutBox
     }
 }
 
-/// Gives the boxes of the states that leave a stage, one for each state. [`Memory`] where memory was refused.
-pub(crate) fn out_boxes(alloc: Global, subproblem: &Subproblem) -> Result<List<OutBox>, Memory>
+/// Gives the boxes of the states that leave a stage, one for each state, in the memory of a list without values. [`Memory`] where
+/// memory was refused.
+pub(crate) fn out_boxes(over: List<OutBox>, subproblem: &Subproblem) -> Result<List<OutBox>, Memory>
+    requires over { over ≡ [] }
     requires known { list_all (λ o. nat_lt o (length subproblem.now.decisions)) subproblem.now.outs ≡ true }
     ensures { IfOk result (λ found. found ≡ out_boxes subproblem.now) }
 {
-    let mut found = List::from_vec(Vec::with_capacity(alloc, subproblem.outs.len())?);
+    let mut found = over;
     for state in 0..subproblem.outs.len() {
         found.push(out_box(subproblem, state))?;
     }

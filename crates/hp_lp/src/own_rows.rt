@@ -197,7 +197,14 @@ fn set_row_sides(row: &Row, values: &[i64], state: &[i128], i: usize, lp: &mut S
     lp.set_sides(i, low, high);
 }
 
-/// Gives the own rows of a stage problem the sides of the values and the state.
+// Tells whether the sides of a row go with neither values nor states.
+fn is_fixed(row: &Row) -> bool
+    ensures { result ≡ true → (length row.now.states ≡ 0) × (length row.now.randoms ≡ 0) }
+{
+    row.states.is_empty() && row.randoms.is_empty()
+}
+
+/// Gives the own rows of a stage problem the sides of the values and the state. Rows whose sides are always the same keep theirs.
 pub(crate) fn set_own_sides(rows: &[Row], values: &[i64], state: &[i128], lp: &mut StageLp)
     requires given { AreGiven values.now state.now }
     requires over { All (IsOver (length state.now) (length values.now)) rows.now }
@@ -209,6 +216,9 @@ pub(crate) fn set_own_sides(rows: &[Row], values: &[i64], state: &[i128], lp: &m
         → lp.new.rows ≡ map (own_row values.now state.now) rows.now ++ cuts }
 {
     for i in 0..rows.len() {
-        set_row_sides(&rows[i], values, state, i, lp);
+        let row = &rows[i];
+        if !is_fixed(row) {
+            set_row_sides(row, values, state, i, lp);
+        }
     }
 }

@@ -5,7 +5,7 @@ ghost use Rattle.hp_cut.specs.AtNodes.{PoolsFit};
 use crate::out_boxes::out_boxes;
 use crate::stages::StageNode;
 use hp_cut::Pools;
-use hp_num::Memory;
+use hp_num::{List, Memory};
 use hp_problem::Problem;
 use std::alloc::Global;
 
@@ -16,7 +16,7 @@ fn prepare_at(alloc: Global, problem: &Problem, pools: &mut Pools, node: u32) ->
     ensures { pools.new ≡ pools.old }
 {
     let stage = StageNode::of(problem, node);
-    let boxes = out_boxes(alloc, stage.subproblem)?;
+    let boxes = out_boxes(List::new(alloc), stage.subproblem)?;
     for successor in stage.node.successors.as_slice() {
         pools.prepare(alloc, *successor, boxes.as_slice())?;
     }

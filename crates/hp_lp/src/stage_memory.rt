@@ -1,4 +1,6 @@
 // The memory that stage problems are done with.
+use hp_cut::OutBox;
+use hp_num::Spare;
 use hp_solver::{LpRow, StageLp, blank_row};
 use std::alloc::Global;
 use std::mem;
@@ -12,6 +14,8 @@ pub struct StageMemory {
     rows: Vec<LpRow>,
     /// Rows that stage problems with fewer rows had no use for.
     left_over: Vec<LpRow>,
+    /// The memory of the boxes of states that leave a stage.
+    pub(crate) boxes: Spare<OutBox>,
 }
 
 impl StageMemory {
@@ -21,6 +25,7 @@ impl StageMemory {
             alloc,
             rows: Vec::new(alloc),
             left_over: Vec::new(alloc),
+            boxes: Spare::new(alloc),
         }
     }
 

@@ -22,7 +22,6 @@ use hp_num::{List, Memory};
 use hp_parts::{Node, Subproblem};
 use hp_problem::Problem;
 use hp_solver::{Column, LpRow, PackedView, Program, StageLp};
-use std::alloc::Global;
 
 /// A node with its subproblem.
 #[derive(Clone, Copy)]
@@ -49,19 +48,23 @@ impl<'a> StageNode<'a> {
 }
 
 // The decisions' columns, and then the successors'.
-fn columns(alloc: Global, stage: &StageNode, pools: &Pools) -> Result<List<Column>, Memory>
+fn columns(
+    memory: &mut StageMemory,
+    stage: &StageNode,
+    pools: &Pools,
+) -> Result<List<Column>, Memory>
     requires { AreNodePartsWithin pools.now.lists stage.now.node.now stage.now.subproblem.now }
     ensures { IfOk result (λ found. found ≡ map (decision_column stage.now.weight) stage.now.subproblem.now.decisions
         ++ future_columns stage.now.subproblem.now pools.now.lists stage.now.node.now.successors stage.now.node.now.successor_weights) }
 {
     let mut found = decision_columns(
-        alloc,
+        memory.alloc(),
         stage.weight,
         stage.subproblem.decisions.as_slice(),
         stage.node.successors.len(),
     )?;
     push_future_columns(
-        alloc,
+        memory,
         &mut found,
         stage.subproblem,
         pools,
@@ -151,7 +154,7 @@ fn listed_stage<'a>(
     requires given { AreOf stage.now.subproblem.now values.now state.now }
     ensures { IfOk result (λ lp. lp ≡ stage_program pools.now.lists stage.now.node.now stage.now.subproblem.now values.now state.now) }
 {
-    let columns = columns(memory.alloc(), stage, pools)?;
+    let columns = columns(memory, stage, pools)?;
     let rows = rows(memory, stage, pools, values, state)?;
     Ok(StageLp::of(program(stage, columns, rows)))
 }
@@ -173,7 +176,7 @@ fn packed_stage<'a>(
     requires view { IsView cuts }
     ensures { IfOk result (λ lp. lp ≡ stage_program pools.now.lists stage.now.node.now stage.now.subproblem.now values.now state.now) }
 {
-    let columns = columns(memory.alloc(), stage, pools)?;
+    let columns = columns(memory, stage, pools)?;
     let rows = own_rows(memory, stage, values, state)?;
     Ok(StageLp::with_cuts(program(stage, columns, rows), cuts))
 }

@@ -1,4 +1,4 @@
-// What a solver makes ready for the nodes of a problem.
+// Keeps what a solver makes ready for each node of a problem.
 ghost use Rattle.std.specs.Prelude.{◌≡◌, ◌<◌, ℕ, [], length, get_or, slice_get, IfOk, Some};
 ghost use Rattle.hp_lp.specs.Ready.{AreReady, AreStarts};
 

@@ -1,6 +1,7 @@
 // The memory that calls lend each other.
 use crate::stage_memory::StageMemory;
 use hp_cut::Spares;
+use hp_num::Spare;
 use hp_solver::{Solver, StageLp};
 use std::alloc::Global;
 
@@ -12,6 +13,8 @@ pub struct Workspace<V: Solver> {
     pub stages: StageMemory,
     /// The memory of entries, and of the certificates in them.
     pub spares: Spares,
+    /// The memory of lists of decisions, which are numbers at scale 2^24.
+    pub decisions: Spare<i128>,
     /// The chain that came back last.
     pub(crate) chain: Option<V::Chain>,
 }
@@ -22,6 +25,7 @@ impl<V: Solver> Workspace<V> {
         Workspace {
             stages: StageMemory::new(alloc),
             spares: Spares::new(alloc),
+            decisions: Spare::new(alloc),
             chain: None,
         }
     }

@@ -12,7 +12,7 @@ use hp_cut_making::node_at::NodeAt;
 use hp_num::List;
 use hp_theory::Certificate;
 
-/// What pairs add up to, whatever their order, and how large the numbers of their cuts are.
+/// Adds up pairs, in any order, and keeps the greatest numbers of their cuts.
 #[derive(Clone, Copy)]
 pub(super) struct Tally {
     /// The multipliers by the weights of their realizations.

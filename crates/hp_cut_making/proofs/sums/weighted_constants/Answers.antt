@@ -1,6 +1,7 @@
-use Rattle.std.proofs.Common.{◌≡◌, ℕ, ℤ, pos, ◌*ℤ◌, List, [], All, zip, get_or, to_z, of_z, arith, refl, rules, SFits, ap, ap₂, sym, subst, ◌∙◌}
+use Rattle.std.proofs.Common.{◌≡◌, ℕ, ◌+◌, ◌<◌, ℤ, pos, ◌*ℤ◌, List, [], All, zip, get_or, length, to_z, of_z, arith, refl, rules, SFits, ap, ap₂, sym, subst, ◌∙◌}
 use mir.Syntax.{w128}
 use Rattle.std.specs.Int.{int_wrap}
+use Rattle.hp_num.specs.Sums.{entry}
 use Rattle.hp_theory.specs.declared.cut.Certificate.{Certificate}
 use Rattle.hp_theory.specs.Problem.{Realization, Node, with_weights}
 use Rattle.hp_theory.specs.View.{node_of}
@@ -11,6 +12,7 @@ use Rattle.hp_cut_making.specs.FixedParts.{fixed_at}
 use Rattle.hp_cut_making.specs.Parts.{ReducedFit, constant_at_scale}
 use Rattle.hp_cut_making.proofs.Congruence.{sum_step, sum_all, same_add, same_times, same_read}
 use Rattle.hp_cut_making.proofs.Viewed.{alpha-node_of}
+use Rattle.hp_cut_making.proofs.Remembered.{known_more}
 use Rattle.hp_cut_making.proofs.Weighted.{weighted_inside, weighted_all, weighted_at}
 use Rattle.hp_cut_making.proofs.sums.weighted_constants.Goals as goal
 
@@ -57,10 +59,10 @@ loop-r-preserved c =
           (weighted_inside c.args.here.now.weights.now c.args.here.now.node.now.weights c.args.here.now.node.now.values c.args.list.now c.requires.count c.requires.limits.values c.requires.list r c.loop-r-test.true) c.loop-r.invariant.value
           (same_read c.wrapping_add_product-sum.result (record { sfits = c.wrapping_add_product-sum.type_inv }) ∙ c.wrapping_add_product-sum.ensures ∙ same_add s _ s (pos w *ℤ alpha_at lists n v certificate) refl (same_times _ _ (pos w) (alpha_at lists n v certificate) weight constant))
           (ap (λ (q : Realization × Certificate). int_wrap w128 (f q)) (sym here));
-      fixed = λ q next d.
-          let same : r ≡ q = omega (arith, next) in
-          subst (λ (i : ℕ). Congruent (to_z w128 (of_z w128 c.fixed_at-fixed.result)) (fixed_at c.args.costs.now.scale lists c.args.here.now.node.now c.args.here.now.subproblem.now (get_or c.args.list.now i d))) same
-          (same_read c.fixed_at-fixed.result (record { sfits = c.fixed_at-fixed.type_inv }) ∙ c.fixed_at-fixed.ensures.value d);
+      fixed =
+          let at : ℕ → ℤ → Type 0 = λ q z. (d : Certificate) → Congruent z (fixed_at c.args.costs.now.scale lists c.args.here.now.node.now c.args.here.now.subproblem.now (get_or c.args.list.now q d)) in
+          subst (λ (parts : List ℤ). (q : ℕ) → q < r + 1 → q < length parts → at q (entry parts q)) (sym c.keep.ensures)
+          (known_more at c.loop-r.known r _ c.loop-r.invariant.fixed (λ d. same_read c.fixed_at-fixed.result (record { sfits = c.fixed_at-fixed.type_inv }) ∙ c.fixed_at-fixed.ensures.value d));
     }
 
 pub returns : goal.returns

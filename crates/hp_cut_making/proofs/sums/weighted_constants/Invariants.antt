@@ -5,7 +5,7 @@ use Rattle.hp_theory.specs.Problem.{Realization, Node, with_weights}
 use Rattle.hp_theory.specs.View.{node_of}
 use Rattle.hp_theory.specs.CutOf.{alpha_at}
 use Rattle.hp_cut_making.specs.Congruent.{Congruent}
-use Rattle.hp_cut_making.specs.FixedParts.{IsFixedBefore}
+use Rattle.hp_cut_making.specs.FixedParts.{AreFixedBefore}
 use Rattle.hp_cut_making.proofs.sums.weighted_constants.Given as goal
 
 abbrev pub invariant-loop-r : goal.invariant-loop-r
@@ -14,5 +14,5 @@ invariant-loop-r l =
     record {
       count : length l.reduced ≡ length l.initial.reduced;
       value : Congruent l.sum (total (λ (q : Realization × Certificate). pos q.0.weight *ℤ alpha_at l.here.pools.now.lists n q.0.values q.1) (take l.r (zip n.realizations l.list)));
-      fixed : IsFixedBefore l.costs.scale l.here.pools.now.lists l.here.node.now l.here.subproblem.now l.list l.r l.fixed;
+      fixed : AreFixedBefore l.costs.scale l.here.pools.now.lists l.here.node.now l.here.subproblem.now l.list l.r l.known;
     }

@@ -3,8 +3,8 @@ use Rattle.hp_cut.specs.Pooled.{Pooled}
 use Rattle.hp_lp.proofs.ValidatedStages.{within-fit}
 use Rattle.hp_lp.proofs.preparing.prepare_at.Goals as goal
 
-pub out_boxes-requires : goal.out_boxes-requires
-out_boxes-requires c = record { known = (within-fit c.args.pools.now.lists c.of-stage.ensures.stands c.requires.fit).known_outs }
+pub out_boxes-requires-clause-known : goal.out_boxes-requires-clause-known
+out_boxes-requires-clause-known c = (within-fit c.args.pools.now.lists c.of-stage.ensures.stands c.requires.fit).known_outs
 
 pub prepare-requires : goal.prepare-requires
 prepare-requires c =

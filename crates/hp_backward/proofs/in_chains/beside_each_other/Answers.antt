@@ -1,7 +1,7 @@
 use Rattle.std.proofs.Common.{ℕ, ◌+◌, ◌≤◌, length, Result, Ok, Err, IfOk, arith, rules}
 use Rattle.hp_backward.specs.declared.certified.Certified.{Certified}
 use Rattle.hp_settle.specs.declared.plan_fault.PlanFault.{PlanFault}
-use Rattle.hp_backward.proofs.two_chains.beside_each_other.Goals as goal
+use Rattle.hp_backward.proofs.in_chains.beside_each_other.Goals as goal
 
 few : (f g : Result Certified PlanFault) (m n : ℕ) → IfOk f (λ a. a.unanswered ≤ m) → IfOk g (λ b. b.unanswered ≤ n) → m + n ≤ 100 → IfOk f (λ a. IfOk g (λ b. a.unanswered + b.unanswered ≤ 100))
 few (Ok a) (Ok b) m n h i s = omega (arith, h, i, s)

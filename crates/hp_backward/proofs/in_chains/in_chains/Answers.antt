@@ -5,7 +5,7 @@ use Rattle.hp_settle.specs.declared.plan_fault.PlanFault.{PlanFault}
 use Rattle.hp_backward.specs.Certifying.{in_chain, in_turn, values_of}
 use Rattle.hp_settle.specs.Faults.{Stops}
 use Rattle.hp_backward.proofs.Certificates.{in_their_chains}
-use Rattle.hp_backward.proofs.two_chains.in_chains.Goals as goal
+use Rattle.hp_backward.proofs.in_chains.in_chains.Goals as goal
 
 pub returns-then-not-in_two_chains-clause-value : goal.returns-then-not-in_two_chains-clause-value
 returns-then-not-in_two_chains-clause-value g c =

@@ -1,5 +1,5 @@
 use Rattle.hp_backward.proofs.Certificates.{counted_in_order}
-use Rattle.hp_backward.proofs.two_chains.certified_in_order.Goals as goal
+use Rattle.hp_backward.proofs.in_chains.certified_in_order.Goals as goal
 
 pub returns-clause-count : goal.returns-clause-count
 returns-clause-count g c =
