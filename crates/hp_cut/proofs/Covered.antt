@@ -1,14 +1,12 @@
 -- Cuts that cover others.
-use Rattle.std.proofs.Common.{◌≡◌, ◌∙◌, ℕ, zero, suc, ◌+◌, ◌<◌, ◌≤◌, ℤ, List, [], ◌∷◌, ◌++◌, length, map, take, get_or, All, IfSome, ◌⊎◌, inl, inr, add-one, refl, ap, ap₂, sym, subst, arith}
+use Rattle.std.proofs.Common.{◌≡◌, ◌∙◌, ℕ, zero, suc, ◌+◌, ◌<◌, ◌≤◌, ℤ, List, [], ◌∷◌, ◌++◌, length, map, get_or, All, ◌⊎◌, inl, inr, add-one, refl, ap, ap₂, sym, subst, arith}
 use Rattle.std.proofs.Math.ListN.{get_or-append}
-use Rattle.std.proofs.lemmas.List.{get_or_default}
 use Rattle.std.proofs.Math.Seq.{get_or-append_seam}
-use Rattle.std.proofs.lemmas.List.{length-append, length-take-le}
+use Rattle.std.proofs.lemmas.List.{length-append}
 use Rattle.std.proofs.lemmas.Int.{ints}
 use Rattle.hp_solver.specs.PackedCut.{PackedCut, no_packed_cut}
 use Rattle.hp_solver.specs.Covering.{value_of, packed_cut_at, IsBefore, Covers, IsCovered, AreRisingPlaces, CoverAll}
 use Rattle.hp_cut.specs.Active.{CoverFirst, IsLeft, AreMarkedFirst, IsMarked, AreFirst, IsActive, AreTaken}
-use Rattle.hp_cut.specs.CoarseLists.{IsCoarseOf}
 use Rattle.hp_cut.specs.declared.active_cuts.Active.{Active}
 
 -- a place is below where they end
@@ -27,13 +25,6 @@ pub rising_more : (least p : ℕ) (ps : List ℕ) → AreRisingPlaces least p ps
 rising_more least p [] r h = (h, omega arith, tt)
 rising_more least p (q ∷ ps) r h = (r.0, omega (arith, r.1), rising_more (suc q) p ps r.2 (omega (arith, r.1)))
 
--- a place and the next, or where they end
-pub rising_next : (least count k : ℕ) (ps : List ℕ) → AreRisingPlaces least count ps → k < length ps → suc (get_or ps k 0) ≤ get_or ps (suc k) count
-rising_next least count k [] r h = absurd (omega (arith, h))
-rising_next least count zero (p ∷ []) r h = omega (arith, r.1)
-rising_next least count zero (p ∷ q ∷ ps) r h = r.2.0
-rising_next least count (suc k) (p ∷ ps) r h = rising_next (suc p) count k ps r.2 (omega (arith, h))
-
 before_refl : (i : ℕ) (x : ℤ) → IsBefore i x i x
 before_refl i x = inr (omega (arith, ints), omega arith)
 
@@ -43,10 +34,10 @@ before_trans i j k x y z (inl h) (inr g) = inl (omega (arith, ints, h, g.0))
 before_trans i j k x y z (inr h) (inl g) = inl (omega (arith, ints, h.0, g))
 before_trans i j k x y z (inr h) (inr g) = inr (omega (arith, ints, h.0, g.0), omega (arith, h.1, g.1))
 
-covers_refl : (all : List PackedCut) (lows highs : List ℤ) (i : ℕ) → Covers all lows highs i i
+pub covers_refl : (all : List PackedCut) (lows highs : List ℤ) (i : ℕ) → Covers all lows highs i i
 covers_refl all lows highs i = λ xs inside. before_refl i (value_of (packed_cut_at all i) xs)
 
-covers_trans : (all : List PackedCut) (lows highs : List ℤ) (i j k : ℕ) → Covers all lows highs i j → Covers all lows highs j k → Covers all lows highs i k
+pub covers_trans : (all : List PackedCut) (lows highs : List ℤ) (i j k : ℕ) → Covers all lows highs i j → Covers all lows highs j k → Covers all lows highs i k
 covers_trans all lows highs i j k a b = λ xs inside. before_trans i j k (value_of (packed_cut_at all i) xs) (value_of (packed_cut_at all j) xs) (value_of (packed_cut_at all k) xs) (a xs inside) (b xs inside)
 
 -- a covered cut stays so with more places
@@ -87,39 +78,6 @@ last_or_before (suc j) (suc k) h = further (last_or_before j k (omega (arith, h)
     further : ((j < k) ⊎ (j ≡ k)) → (suc j < suc k) ⊎ (suc j ≡ suc k)
     further (inl a) = inl (omega (arith, a))
     further (inr e) = inr (ap suc e)
-
--- one place more is gone through, and it goes
-pub rising_dropped : (ps room : List ℕ) (p k : ℕ) → AreRisingPlaces 0 p ps → k < length ps → AreRisingPlaces 0 (get_or ps k p) room → AreRisingPlaces 0 (get_or ps (k + 1) p) room
-rising_dropped ps room p k r h s =
-    let next : suc (get_or ps k 0) ≤ get_or ps (suc k) p = rising_next 0 p k ps r h in
-    let same : get_or ps k p ≡ get_or ps k 0 = get_or_default ps k p 0 h in
-    rw add-one (rising_up 0 (get_or ps k p) (get_or ps (suc k) p) room s (omega (arith, next, same)))
-
--- one place more is gone through, and it stays
-pub rising_kept : (ps room new : List ℕ) (p k q : ℕ) → AreRisingPlaces 0 p ps → k < length ps → q ≡ get_or ps k 0 → new ≡ room ++ q ∷ [] → AreRisingPlaces 0 (get_or ps k p) room → AreRisingPlaces 0 (get_or ps (k + 1) p) new
-rising_kept ps room new p k q r h e put s =
-    let next : suc (get_or ps k 0) ≤ get_or ps (suc k) p = rising_next 0 p k ps r h in
-    let same : get_or ps k p ≡ q = get_or_default ps k p 0 h ∙ sym e in
-    let more : AreRisingPlaces 0 (suc q) (room ++ q ∷ []) = rising_more 0 q room (subst (λ (b : ℕ). AreRisingPlaces 0 b room) same s) (omega arith) in
-    rw (add-one, put) (rising_up 0 (suc q) (get_or ps (suc k) p) (room ++ q ∷ []) more (omega (arith, next, e)))
-
-pub left_dropped : (all : List PackedCut) (lows highs : List ℤ) (ps room : List ℕ) (p k : ℕ) → Covers all lows highs p (get_or ps k 0) → ((j : ℕ) → j < k → IsLeft all lows highs p room (get_or ps j 0)) → (j : ℕ) → j < k + 1 → IsLeft all lows highs p room (get_or ps j 0)
-left_dropped all lows highs ps room p k c left = λ j h. here j (last_or_before j k (omega (arith, h)))
-  where
-    here : (j : ℕ) → ((j < k) ⊎ (j ≡ k)) → IsLeft all lows highs p room (get_or ps j 0)
-    here j (inl a) = left j a
-    here j (inr e) = subst (λ (i : ℕ). IsLeft all lows highs p room (get_or ps i 0)) (sym e) (inr c)
-
-left_more : (all : List PackedCut) (lows highs : List ℤ) (room : List ℕ) (p q j : ℕ) → IsLeft all lows highs p room j → IsLeft all lows highs p (room ++ q ∷ []) j
-left_more all lows highs room p q j (inl a) = inl (covered_more all lows highs room (q ∷ []) j a)
-left_more all lows highs room p q j (inr b) = inr b
-
-pub left_kept : (all : List PackedCut) (lows highs : List ℤ) (ps room new : List ℕ) (p k q : ℕ) → q ≡ get_or ps k 0 → new ≡ room ++ q ∷ [] → ((j : ℕ) → j < k → IsLeft all lows highs p room (get_or ps j 0)) → (j : ℕ) → j < k + 1 → IsLeft all lows highs p new (get_or ps j 0)
-left_kept all lows highs ps room new p k q e put left = λ j h. subst (λ (rs : List ℕ). IsLeft all lows highs p rs (get_or ps j 0)) (sym put) (here j (last_or_before j k (omega (arith, h))))
-  where
-    here : (j : ℕ) → ((j < k) ⊎ (j ≡ k)) → IsLeft all lows highs p (room ++ q ∷ []) (get_or ps j 0)
-    here j (inl a) = left_more all lows highs room p q (get_or ps j 0) (left j a)
-    here j (inr i) = inl (subst (λ (n : ℕ). IsCovered all lows highs (room ++ q ∷ []) n) (e ∙ ap (λ (n : ℕ). get_or ps n 0) (sym i)) (covered_own all lows highs room q))
 
 -- with those that are left and the new one the first cuts and the new one are covered
 pub covered_with : (all : List PackedCut) (lows highs : List ℤ) (room : List ℕ) (p q j : ℕ) → IsLeft all lows highs p room q → Covers all lows highs q j → IsCovered all lows highs (room ++ p ∷ []) j
@@ -203,10 +161,6 @@ all_below least count [] r k d l = absurd (omega (arith, l))
 all_below least count (p ∷ ps) r zero d l = r.1
 all_below least count (p ∷ ps) r (suc k) d l = all_below (suc p) count ps r.2 k d (omega (arith, l))
 
--- and so with one place more
-pub below_with : (count p : ℕ) (ps new : List ℕ) → AreRisingPlaces 0 p ps → p < count → new ≡ ps ++ p ∷ [] → All (λ (q : ℕ). q < count) new
-below_with count p ps new r h put = rw put (all_below 0 count (ps ++ p ∷ []) (rising_up 0 (suc p) count (ps ++ p ∷ []) (rising_more 0 p ps r (omega arith)) (omega (arith, h))))
-
 -- the cuts of a list are the first of a list with the same first cuts
 pub active_among : (all others : List PackedCut) (n : ℕ) (a : Active) → n ≡ length all → AreSameTo n all others → IsActive all a → AreFirst others n a
 active_among all others n a e same is =
@@ -234,52 +188,9 @@ are_active all n a first e = record {
   mark = subst (λ (m : ℕ). AreMarkedFirst all m a) e first.mark;
 }
 
--- the mark is set to cuts that cover all
-pub marked_now : (all : List PackedCut) (n : ℕ) (old new : Active) → n ≡ length all → IsActive all old → new.places.items ≡ old.places.items → new.lows.items ≡ old.lows.items → new.highs.items ≡ old.highs.items → new.copies ≡ old.copies → new.coarse ≡ old.coarse → new.marked.items ≡ old.places.items → new.marked_count ≡ n → IsActive all new
-marked_now all n old new e is places lows highs copies coarse marked count = record {
-  cover = rw (places, lows, highs) is.cover;
-  coarse = rw (coarse, copies) is.coarse;
-  same = copies ∙ is.same ∙ ap (map (packed_cut_at all)) (sym places);
-  mark = record {
-    few = omega (arith, count, e);
-    cover = rw (marked, count, lows, highs, e) (record { rising = is.cover.rising; covered = is.cover.covered });
-  };
-}
-
--- no cut is covered without places
-none_covered : (all : List PackedCut) (lows highs : List ℤ) → CoverFirst all 0 [] lows highs
-none_covered all lows highs = record {
-  rising = tt;
-  covered = λ j h. absurd (omega (arith, h));
-}
-
--- there is no mark any more
-pub marked_never : (all : List PackedCut) (old new : Active) → IsActive all old → new.places.items ≡ old.places.items → new.lows.items ≡ old.lows.items → new.highs.items ≡ old.highs.items → new.copies ≡ old.copies → new.coarse ≡ old.coarse → new.marked.items ≡ [] → new.marked_count ≡ 0 → IsActive all new
-marked_never all old new is places lows highs copies coarse marked count = record {
-  cover = rw (places, lows, highs) is.cover;
-  coarse = rw (coarse, copies) is.coarse;
-  same = copies ∙ is.same ∙ ap (map (packed_cut_at all)) (sym places);
-  mark = record {
-    few = omega (arith, count);
-    cover = rw (marked, count) (none_covered all new.lows.items new.highs.items);
-  };
-}
-
 -- the places of the mark are those of cuts
 pub marked_below : (all : List PackedCut) (a : Active) (ps : List ℕ) → IsMarked all a → a.marked_count ≡ length all → ps ≡ a.marked.items → All (λ (p : ℕ). p < length all) ps
 marked_below all a ps mark e same = rw same (all_below 0 (length all) a.marked.items (subst (λ (n : ℕ). AreRisingPlaces 0 n a.marked.items) e (mark e).rising))
-
--- the places of the mark cover all cuts of a list that has as many
-pub gone_back : (all : List PackedCut) (old new : Active) → IsMarked all old → old.marked_count ≡ length all → new.places.items ≡ old.marked.items → new.lows.items ≡ old.lows.items → new.highs.items ≡ old.highs.items → new.copies ≡ map (packed_cut_at all) new.places.items → IfSome new.coarse (IsCoarseOf new.copies) → new.marked.items ≡ old.marked.items → new.marked_count ≡ old.marked_count → IsActive all new
-gone_back all old new mark e places lows highs copies coarse marked count = record {
-  cover = rw (places, lows, highs) (all_first all old.lows.items old.highs.items old.marked.items old.marked_count (mark e) e);
-  same = copies;
-  coarse = coarse;
-  mark = record {
-    few = omega (arith, count, e);
-    cover = rw (marked, count, lows, highs) (mark e);
-  };
-}
 
 -- the cuts at the places that are taken cover the first cuts and one more
 pub places_taken : (all : List PackedCut) (p : ℕ) (qs : List ℕ) (old mid new : Active) → AreFirst all p old → CoverFirst all (p + 1) qs old.lows.items old.highs.items → mid.lows.items ≡ old.lows.items → mid.highs.items ≡ old.highs.items → mid.marked.items ≡ old.marked.items → mid.marked_count ≡ old.marked_count → AreTaken all qs mid new → AreFirst all (p + 1) new
@@ -292,30 +203,3 @@ places_taken all p qs old mid new before cover lows highs marked count taken = r
     cover = rw (taken.marked, taken.marked_count, taken.lows, taken.highs, lows, highs, marked, count) before.mark.cover;
   };
 }
-
--- the place of a list's front
-front_at : (k j : ℕ) (ps : List ℕ) → j < k → k ≤ length ps → get_or (take k ps) j 0 ≡ get_or ps j 0
-front_at zero j ps h l = absurd (omega (arith, h))
-front_at (suc k) j [] h l = absurd (omega (arith, l))
-front_at (suc k) zero (p ∷ ps) h l = refl
-front_at (suc k) (suc j) (p ∷ ps) h l = front_at k j ps (omega (arith, h)) (omega (arith, l))
-
--- a place is below those behind it, and below where they end
-below_next : (least count k p : ℕ) (ps : List ℕ) → AreRisingPlaces least count ps → p < least → p < count → p < get_or ps k count
-below_next least count k p [] r h e = e
-below_next least count zero p (q ∷ ps) r h e = omega (arith, r.0, h)
-below_next least count (suc k) p (q ∷ ps) r h e = below_next (suc q) count k p ps r.2 (omega (arith, r.0, h)) e
-
--- the front of rising places
-pub rising_front : (least count k : ℕ) (ps : List ℕ) → AreRisingPlaces least count ps → k ≤ length ps → AreRisingPlaces least (get_or ps k count) (take k ps)
-rising_front least count zero ps r l = tt
-rising_front least count (suc k) [] r l = absurd (omega (arith, l))
-rising_front least count (suc k) (p ∷ ps) r l = (r.0, below_next (suc p) count k p ps r.2 (omega arith) r.1, rising_front (suc p) count k ps r.2 (omega (arith, l)))
-
--- the first places are left where they stay
-pub left_front : (all : List PackedCut) (lows highs : List ℤ) (ps : List ℕ) (p k : ℕ) → k ≤ length ps → (j : ℕ) → j < k → IsLeft all lows highs p (take k ps) (get_or ps j 0)
-left_front all lows highs ps p k l = λ j h. inl (record {
-  by = j;
-  there = omega (arith, h, length-take-le k ps l);
-  covers = subst (λ (i : ℕ). Covers all lows highs i (get_or ps j 0)) (sym (front_at k j ps h l)) (covers_refl all lows highs (get_or ps j 0));
-})

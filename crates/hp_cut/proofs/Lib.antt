@@ -11,3 +11,4 @@ pub mod Covered
 pub mod Leads
 pub mod PushedCuts
 pub mod FewerDigits
+pub mod Removed

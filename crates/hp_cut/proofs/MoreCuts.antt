@@ -57,11 +57,11 @@ cuts_of_front n (suc k) (h ∷ hs) bs =
     (take-take n (suc k * n) bs (omega (arith, whole)))
     (ap (λ (m : ℕ). cuts_of n (take k hs) (drop n (take m bs))) whole ∙ ap (cuts_of n (take k hs)) (drop-take n (k * n) bs) ∙ cuts_of_front n k hs (drop n bs))
 
-length_cuts_of : (n : ℕ) (hs bs : List ℤ) → length (cuts_of n hs bs) ≡ length hs
+pub length_cuts_of : (n : ℕ) (hs bs : List ℤ) → length (cuts_of n hs bs) ≡ length hs
 length_cuts_of n [] bs = refl
 length_cuts_of n (h ∷ hs) bs = ap suc (length_cuts_of n hs (drop n bs))
 
-times_up : (k m n : ℕ) → k ≤ m → k * n ≤ m * n
+pub times_up : (k m n : ℕ) → k ≤ m → k * n ≤ m * n
 times_up zero m n h = omega arith
 times_up (suc k) zero n h = absurd (omega (arith, h))
 times_up (suc k) (suc m) n h = omega (arith, times_up k m n (omega (arith, h)))
@@ -76,14 +76,6 @@ packed_front n k hs bs p h =
       heights = All-take (λ z. nat_abs z < 2 ^ 100) k hs p.heights;
       slopes = All-take (λ s. nat_abs s < 2 ^ 57) (k * n) bs p.slopes;
     }
-
--- the view of contracts of them
-pub seen_back : (n k : ℕ) (hs bs gs ss : List ℤ) (old : List PackedCut) → gs ≡ take k hs → ss ≡ take (k * n) bs → cuts_of n hs bs ≡ old → cuts_of n gs ss ≡ take k old
-seen_back n k hs bs gs ss old heights slopes same = rw (heights, slopes) (cuts_of_front n k hs bs ∙ ap (take k) same)
-
--- nothing is cut back
-pub seen_whole : (n k : ℕ) (hs bs : List ℤ) (old : List PackedCut) → length hs ≤ k → cuts_of n hs bs ≡ old → old ≡ take k old
-seen_whole n k hs bs old h same = sym (take_all k old (omega (arith, h, ap length same, length_cuts_of n hs bs)))
 
 -- the cuts are cut back
 pub front : (cs : List Cut) (k : ℕ) (old new : FlatCuts) → k ≤ length cs → IsFlat cs old → old.kept ≡ true → new.heights.items ≡ take k old.heights.items → new.slopes.items ≡ take (k * old.states) old.slopes.items → new.states ≡ old.states → IsFlat (take k cs) new

@@ -1,6 +1,7 @@
 // The cuts of a node that cover the others over a box of states.
 ghost use Rattle.std.specs.Prelude.{◌≡◌, ◌<◌, ◌≤◌, ◌+◌, ◌∷◌, ◌++◌, [], ℕ, ◌+ℤ◌, ◌-ℤ◌, ◌*ℤ◌, List, length, map, take, get_or, true, All, IfOk, IfSome, OnOk};
 ghost use Rattle.std.specs.Int.{int_min};
+ghost use Rattle.std.specs.List.{remove};
 ghost use Rattle.hp_num.specs.Sums.{sum_to};
 ghost use Rattle.hp_solver.specs.PackedCut.{PackedCut};
 ghost use Rattle.hp_solver.specs.Covering.{packed_cut_at, AreRisingPlaces, IsCovered, Covers, AreActive};
@@ -26,14 +27,12 @@ pub(crate) struct Active {
     highs: Vec<i64>,
     /// The places of the cuts, which rise.
     places: Vec<u32>,
-    /// Room for the places that are left when a cut is taken in.
-    room: Vec<u32>,
     /// The values of each cut that was taken in, at corners of the box.
     corners: Vec<Corners>,
     /// The cuts at the places once more, side by side.
     copies: Copies,
-    /// The same cuts in fewer binary digits. None where a slope is above 0, where a number does not fit, and where memory was
-    /// refused.
+    /// The same cuts in fewer binary digits. There are none where a slope is above 0, where a number does not fit, and where memory
+    /// was refused.
     coarse: Option<Coarse>,
     /// The number of cuts at the mark, 0 where there is none.
     marked_count: u32,
@@ -228,42 +227,44 @@ fn standing_of(all: &Compared, places: &[u32], place: u32) -> Standing
     Standing::Apart
 }
 
-/// Puts those into the room that the cut at a place behind them is not everywhere above. The first ones stay, as many as the count
-/// says. [`Memory`] where memory was refused.
-fn keep_rest(
-    all: &Compared,
-    places: &[u32],
-    place: u32,
-    kept: usize,
-    room: &mut Vec<u32>,
-) -> Result<(), Memory>
-    requires there { place < length all.now.cuts.now }
-    requires rising { AreRisingPlaces 0 place places.now }
-    requires kept { kept ≤ length places.now }
-    ensures rising { OnOk result (AreRisingPlaces 0 place room.new.items) }
-    ensures left { OnOk result ((k : ℕ) → k < length places.now → IsLeft all.now.cuts.now all.now.lows.now all.now.highs.now place room.new.items (get_or places.now k 0)) }
+/// Removes the covering cut with this number from cuts in fewer digits, where there are some.
+fn remove_coarse(coarse: &mut Option<Coarse>, number: usize)
+    ensures { (cuts : List PackedCut) → number < length cuts → IfSome coarse.old (IsCoarseOf cuts) → IfSome coarse.new (IsCoarseOf (remove cuts number)) }
 {
-    copy_places(&places[..kept], room)?;
-    for k in kept..places.len() {
-        let other = places[k];
-        if !is_above(all, place, other) {
-            room.push(other)?;
-        }
+    if let Some(found) = coarse {
+        found.remove(number);
     }
-    Ok(())
 }
 
-/// Finds how many places two lists have in common at their front.
-fn same_front(places: &[u32], others: &[u32]) -> usize
-    ensures { take result places.now ≡ take result others.now }
+/// Removes those covering cuts, from the one with a number on, that the cut at a place behind them is everywhere above. They go
+/// from their places, from the copies, and from the cuts in fewer digits, each where it stands.
+fn remove_lesser(
+    all: &Compared,
+    place: u32,
+    from: usize,
+    places: &mut Vec<u32>,
+    copies: &mut Copies,
+    coarse: &mut Option<Coarse>,
+)
+    requires there { place < length all.now.cuts.now }
+    requires rising { AreRisingPlaces 0 place places.old.items }
+    requires same { copies.old ≡ map (packed_cut_at all.now.cuts.now) places.old.items }
+    requires coarse { IfSome coarse.old (IsCoarseOf copies.old) }
+    ensures rising { AreRisingPlaces 0 place places.new.items }
+    ensures left { (k : ℕ) → k < length places.old.items → IsLeft all.now.cuts.now all.now.lows.now all.now.highs.now place places.new.items (get_or places.old.items k 0) }
+    ensures same { copies.new ≡ map (packed_cut_at all.now.cuts.now) places.new.items }
+    ensures coarse { IfSome coarse.new (IsCoarseOf copies.new) }
 {
-    let most = places.len().min(others.len());
-    for k in 0..most {
-        if places[k] != others[k] {
-            return k;
+    let mut k = from;
+    while k < places.len() {
+        if is_above(all, place, places[k]) {
+            places.remove(k);
+            copies.remove(k);
+            remove_coarse(coarse, k);
+        } else {
+            k += 1;
         }
     }
-    most
 }
 
 /// Updates cuts in fewer digits, the first of which stay, as many as the count says. Digits and the base are chosen anew where no
@@ -296,27 +297,6 @@ fn remade(alloc: Global, coarse: Option<Coarse>, highs: &[i64], cuts: &CutList) 
     None
 }
 
-/// Copies the cuts at other places of a list, and updates them in fewer digits. What both have at their front stays. [`Memory`]
-/// where memory was refused, and where a cut has more or fewer slopes than the others.
-fn moved(
-    copies: &mut Copies,
-    coarse: Option<Coarse>,
-    highs: &[i64],
-    cuts: &CutList,
-    places: &[u32],
-    others: &[u32],
-) -> Result<Option<Coarse>, Memory>
-    requires others { All (λ (p : ℕ). p < length cuts.now) others.now }
-    requires copies { copies.old ≡ map (packed_cut_at cuts.now) places.now }
-    requires coarse { IfSome coarse (IsCoarseOf copies.old) }
-    ensures copies { OnOk result (copies.new ≡ map (packed_cut_at cuts.now) others.now) }
-    ensures coarse { IfOk result (λ found. IfSome found (IsCoarseOf copies.new)) }
-{
-    let kept = same_front(places, others);
-    copies.fill(cuts, others, kept)?;
-    Ok(refilled(coarse, highs, &copies.list(), kept))
-}
-
 /// Writes some places over others. [`Memory`] where memory was refused.
 fn copy_places(from: &[u32], to: &mut Vec<u32>) -> Result<(), Memory>
     ensures { OnOk result (to.new.items ≡ from.now) }
@@ -341,7 +321,6 @@ impl Active {
             lows,
             highs,
             places: Vec::new(alloc),
-            room: Vec::new(alloc),
             corners: Vec::new(alloc),
             copies: Copies::none(alloc, cuts),
             coarse: None,
@@ -379,15 +358,20 @@ impl Active {
             corners: self.corners.as_slice(),
             own,
         };
-        let places = self.places.as_slice();
-        let kept = match standing_of(&all, places, place) {
+        let first = match standing_of(&all, self.places.as_slice(), place) {
             Standing::Covered => return Ok(()),
             Standing::Above(k) => k,
             Standing::Apart => return self.push_place(cuts, place),
         };
-        keep_rest(&all, places, place, kept, &mut self.room)?;
-        self.room.push(place)?;
-        self.take_room(cuts)
+        remove_lesser(
+            &all,
+            place,
+            first,
+            &mut self.places,
+            &mut self.copies,
+            &mut self.coarse,
+        );
+        self.push_place(cuts, place)
     }
 
     /// Puts a place behind the others. [`Memory`] where memory was refused, and where its cut has more or fewer slopes than the
@@ -404,23 +388,6 @@ impl Active {
         let highs = self.highs.as_slice();
         self.coarse = refilled(coarse, highs, &self.copies.list(), kept);
         self.places.push(place)?;
-        Ok(())
-    }
-
-    /// Takes the places in the room in place of the others. [`Memory`] where memory was refused, and where a cut has more or
-    /// fewer slopes than the others.
-    fn take_room(&mut self, cuts: &CutList) -> Result<(), Memory>
-        requires room { All (λ (p : ℕ). p < length cuts.now) self.old.room.items }
-        requires same { self.old.copies ≡ map (packed_cut_at cuts.now) self.old.places.items }
-        requires coarse { IfSome self.old.coarse (IsCoarseOf self.old.copies) }
-        ensures { OnOk result (AreTaken cuts.now self.old.room.items self.old self.new) }
-    {
-        let coarse = self.coarse.take();
-        let highs = self.highs.as_slice();
-        let places = self.places.as_slice();
-        let others = self.room.as_slice();
-        self.coarse = moved(&mut self.copies, coarse, highs, cuts, places, others)?;
-        std::mem::swap(&mut self.places, &mut self.room);
         Ok(())
     }
 
@@ -446,7 +413,7 @@ impl Active {
             return Err(Memory);
         }
         copy_places(self.marked.as_slice(), &mut self.places)?;
-        self.copies.fill(cuts, self.places.as_slice(), 0)?;
+        self.copies.fill(cuts, self.places.as_slice())?;
         let alloc = *self.places.allocator();
         let highs = self.highs.as_slice();
         self.coarse = remade(alloc, self.coarse.take(), highs, &self.copies.list());

@@ -1,5 +1,6 @@
 // Cuts once more in fewer binary digits.
 ghost use Rattle.std.specs.Prelude.{◌≡◌, ◌<◌, ◌≤◌, ◌+◌, ◌*◌, ◌^◌, ◌∷◌, ◌++◌, [], ℕ, ℤ, pos, ◌+ℤ◌, ◌*ℤ◌, ◌≤ℤ◌, neg_ℤ, List, true, length, take, nat_abs, IfSome};
+ghost use Rattle.std.specs.List.{remove};
 ghost use Rattle.hp_num.specs.Sums.{entry, floor_over};
 ghost use Rattle.hp_solver.specs.PackedCut.{PackedCut};
 ghost use Rattle.hp_solver.specs.Coarse.{AreHeights, AreSteeps, IsCoarse};
@@ -180,6 +181,25 @@ fn refill_columns(columns: &mut [Vec<u16>], cuts: &CutList, kept: usize, shift: 
     true
 }
 
+/// Removes the entry with this number from a list, where there is one.
+fn remove_entry<T: Copy>(entries: &mut Vec<T>, number: usize)
+    ensures { number < length entries.old.items → entries.new.items ≡ remove entries.old.items number }
+{
+    if number < entries.len() {
+        entries.remove(number);
+    }
+}
+
+/// Removes how far the cut with this number falls, with each state.
+fn remove_steeps(columns: &mut [Vec<u16>], number: usize)
+    ensures count { length columns.new ≡ length columns.old }
+    ensures steeps { (shift : ℕ) (cuts : List PackedCut) → number < length cuts → AreColumns shift cuts columns.old → AreColumns shift (remove cuts number) columns.new }
+{
+    for state in 0..columns.len() {
+        remove_entry(&mut columns[state], number);
+    }
+}
+
 /// Counts the binary digits of a number.
 fn digits(value: u128) -> u32
     ensures { result ≤ 128 }
@@ -328,6 +348,14 @@ impl Coarse {
             slope_shift + state_shift,
             base,
         ) && refill_columns(self.steeps.as_mut_slice(), cuts, kept, slope_shift)
+    }
+
+    /// Removes the cut with this number. Digits and the base stay.
+    pub(crate) fn remove(&mut self, number: usize)
+        ensures { (cuts : List PackedCut) → number < length cuts → IsCoarseOf cuts self.old → IsCoarseOf (remove cuts number) self.new }
+    {
+        remove_entry(&mut self.heights, number);
+        remove_steeps(self.steeps.as_mut_slice(), number);
     }
 
     /// Lends them.

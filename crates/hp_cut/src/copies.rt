@@ -1,5 +1,6 @@
 // Copies of some cuts of a node, side by side in memory.
-ghost use Rattle.std.specs.Prelude.{◌≡◌, ◌∷◌, ◌++◌, ◌<◌, ℕ, [], length, map, take, All, OnOk};
+ghost use Rattle.std.specs.Prelude.{◌≡◌, ◌∷◌, ◌++◌, ◌<◌, ◌≤◌, ◌+◌, ◌*◌, ℕ, [], length, map, take, drop, All, OnOk};
+ghost use Rattle.std.specs.List.{remove};
 ghost use Rattle.hp_solver.specs.Covering.{packed_cut_at};
 
 use hp_num::Memory;
@@ -46,6 +47,16 @@ fn push_cut(
     Ok(())
 }
 
+/// Removes the slopes of the cut with this number, so many as there are states. Those behind them move up.
+fn remove_slopes(slopes: &mut Vec<i64>, number: usize, states: usize)
+    requires { number * states + states ≤ length slopes.old.items }
+    ensures { slopes.new.items ≡ take (number * states) slopes.old.items ++ drop (number * states + states) slopes.old.items }
+{
+    let from = number * states;
+    slopes.copy_within(from + states.., from);
+    slopes.truncate(slopes.len() - states);
+}
+
 impl Copies {
     /// Makes room for cuts with as many slopes as those of a list.
     pub(crate) fn none(alloc: Global, cuts: &CutList) -> Copies
@@ -58,14 +69,21 @@ impl Copies {
         }
     }
 
-    /// Keeps the first copies alone, as many as the count says.
-    fn truncate(&mut self, kept: usize)
-        ensures { self.new ≡ take kept self.old }
+    /// Keeps no copy.
+    fn clear(&mut self)
+        ensures { self.new ≡ [] }
     {
-        if kept < self.heights.len() {
-            self.heights.truncate(kept);
-            self.slopes.truncate(kept * self.states);
-        }
+        self.heights.clear();
+        self.slopes.clear();
+    }
+
+    /// Removes the copy with this number. Those behind it move up.
+    pub(crate) fn remove(&mut self, number: usize)
+        requires { number < length self.old }
+        ensures { self.new ≡ remove self.old number }
+    {
+        self.heights.remove(number);
+        remove_slopes(&mut self.slopes, number, self.states);
     }
 
     /// Copies the cut at a place of a list behind the others. [`Memory`] where memory was refused, where the cut has more or
@@ -89,16 +107,15 @@ impl Copies {
         }
     }
 
-    /// Copies the cuts at some places of a list. The first copies, as many as the count says, stay in place, the others go.
-    /// [`Memory`] where memory was refused, and where a cut has more or fewer slopes than the others.
-    pub(crate) fn fill(&mut self, cuts: &CutList, places: &[u32], kept: usize) -> Result<(), Memory>
-        requires places { All (λ (p : ℕ). p < length cuts.now) places.now }
-        requires kept { take kept self.old ≡ map (packed_cut_at cuts.now) (take kept places.now) }
+    /// Copies the cuts at some places of a list in place of the others. [`Memory`] where memory was refused, and where a cut has
+    /// more or fewer slopes than the others.
+    pub(crate) fn fill(&mut self, cuts: &CutList, places: &[u32]) -> Result<(), Memory>
+        requires { All (λ (p : ℕ). p < length cuts.now) places.now }
         ensures { OnOk result (self.new ≡ map (packed_cut_at cuts.now) places.now) }
     {
-        self.truncate(kept);
-        for k in kept..places.len() {
-            self.push(cuts, places[k])?;
+        self.clear();
+        for place in places {
+            self.push(cuts, *place)?;
         }
         Ok(())
     }
