@@ -13,7 +13,7 @@ from wrong_edits.verdicts import Verdict, verdict_of, verdict_on_bodies
 
 
 class Tried(NamedTuple):
-    """An edit with its verdict, and the seconds that its check took."""
+    """An edit with its verdict, and the seconds that it took: its share of a check that it has with others, and a check of its own."""
 
     edit: str
     verdict: Verdict
@@ -95,7 +95,10 @@ class Bench:
         tried = []
         for edit in edits:
             verdict = verdict_on_bodies(status, said, texts, self.crate.name, places[edit.name], everywhere)
-            tried.append(Tried(edit.name, verdict, seconds) if verdict.refused else self.alone(edit))
+            more = 0.0
+            if not verdict.refused:
+                _, verdict, more = self.alone(edit)
+            tried.append(Tried(edit.name, verdict, seconds + more))
         return tried
 
     def try_all(self, edits: List[Edit]) -> List[Tried]:
