@@ -8,7 +8,7 @@ import sys
 import threading
 from pathlib import Path
 from types import ModuleType
-from typing import Any, List
+from typing import Any, List, NamedTuple
 
 
 BUILDING = threading.Lock()
@@ -64,10 +64,27 @@ def build_below(crate: Any) -> bool:
         return not any(it.build_rlib(["--jobs", "1"], anew=False) for it in below)
 
 
-def check(crate: Any, room: str, kept: str, only: List[str]) -> "subprocess.CompletedProcess[str]":
+class Checked(NamedTuple):
+    """What came of a check: its status, its output, and the seconds of a processor that it took."""
+
+    status: int
+    said: str
+    seconds: float
+
+
+def timed(words: List[str], room: str) -> Checked:
+    """Runs a program in a folder and returns what came of it. Its seconds do not depend on what else the machine does."""
+    with subprocess.Popen(words, cwd=room, stdin=subprocess.DEVNULL, stdout=subprocess.PIPE, stderr=subprocess.STDOUT,
+                          errors="replace") as process:
+        said = process.stdout.read()
+        _, status, used = os.wait4(process.pid, 0)
+        process.returncode = os.waitstatus_to_exitcode(status)
+    return Checked(process.returncode, said, used.ru_utime + used.ru_stime)
+
+
+def check(crate: Any, room: str, kept: str, only: List[str]) -> Checked:
     """Runs the check of a crate over its files in another folder, of the named paths alone where there are any."""
     kit = library()
     words = [kit.RATTLE, "check", *crate.words(["--jobs", "1"], keeps=False), "--incremental", kept]
     words += [word for path in only for word in ("--only", path)]
-    return subprocess.run([*kit.guarded(), *words], cwd=room, stdin=subprocess.DEVNULL, stdout=subprocess.PIPE,
-                          stderr=subprocess.STDOUT, errors="replace", check=False)
+    return timed([*kit.guarded(), *words], room)

@@ -1,4 +1,4 @@
-"""The ledger of edits that were refused: of which sources, in how many seconds, and on which day each was tried last."""
+"""The ledger of edits that were refused: of which sources, in how many seconds of a processor, and on which day each was tried last."""
 import os
 import re
 import tempfile
@@ -10,7 +10,7 @@ LINE = re.compile(r"(\w+/[\w.-]+\.edit) ([0-9a-f]{20}) (\d+\.\d) (\d{4}-\d\d-\d\
 
 
 class Entry(NamedTuple):
-    """When an edit was refused last: the digest of what was tried, its share of the seconds of a check, and the day."""
+    """When an edit was refused last: the digest of what was tried, the seconds of a processor that it took, and the day."""
 
     digest: str
     seconds: float

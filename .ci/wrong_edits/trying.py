@@ -2,7 +2,6 @@
 import os
 import shutil
 import tempfile
-import time
 from itertools import chain
 from pathlib import Path
 from typing import Any, Dict, List, NamedTuple, Tuple
@@ -13,7 +12,7 @@ from wrong_edits.verdicts import Verdict, verdict_of, verdict_on_bodies
 
 
 class Tried(NamedTuple):
-    """An edit with its verdict, and the seconds that it took: its share of a check that it has with others, and a check of its own."""
+    """An edit with its verdict, and the seconds of a processor that it took: of its share of a common check, and of a check of its own."""
 
     edit: str
     verdict: Verdict
@@ -63,42 +62,40 @@ class Bench:
     def __init__(self, crate: Any, kept: str) -> None:
         self.crate, self.kept, self.folder = crate, kept, Path(crate.folder)
 
-    def check(self, texts: Dict[str, str], only: List[str]) -> Tuple[int, str]:
-        """Returns the status and the output of a check of a copy of the crate with these texts in place of its own."""
+    def check(self, texts: Dict[str, str], only: List[str]) -> kit.Checked:
+        """Returns what came of a check of a copy of the crate with these texts in place of its own."""
         with tempfile.TemporaryDirectory(prefix="wrong-edit-") as room:
             for part in kit.library().PARTS:
                 if (self.folder / part).is_dir():
                     shutil.copytree(self.folder / part, f"{room}/{part}")
             for path, text in texts.items():
                 Path(room, path).write_text(text, encoding="utf-8")
-            ran = kit.check(self.crate, room, self.kept, only)
-            return ran.returncode, ran.stdout
+            return kit.check(self.crate, room, self.kept, only)
 
     def alone(self, edit: Edit) -> Tried:
         """Tries an edit by itself: over the paths that it names, else over the functions that it changes, else over the whole crate."""
-        began, texts = time.monotonic(), applied(edit, self.folder)
+        texts = applied(edit, self.folder)
         places = places_of(edit, self.folder) or []
-        status, said = self.check(texts, edit.only or places)
+        status, said, seconds = self.check(texts, edit.only or places)
         if edit.only or not is_of_bodies(edit, self.folder):
             verdict = verdict_of(status, said, texts)
         else:
             verdict = verdict_on_bodies(status, said, texts, self.crate.name, places, [])
-        return Tried(edit.name, verdict, time.monotonic() - began)
+        return Tried(edit.name, verdict, seconds)
 
     def together(self, edits: List[Edit]) -> List[Tried]:
         """Tries edits of different functions' bodies in one check, and by itself each one of which this check does not tell."""
-        began, texts = time.monotonic(), over_each_other(edits, self.folder)
+        texts = over_each_other(edits, self.folder)
         places = {it.name: places_of(it, self.folder) or [] for it in edits}
         everywhere = list(chain(*places.values()))
-        status, said = self.check(texts, everywhere) if texts else (2, "")
-        seconds = (time.monotonic() - began) / len(edits)
+        status, said, seconds = self.check(texts, everywhere) if texts else (2, "", 0.0)
         tried = []
         for edit in edits:
             verdict = verdict_on_bodies(status, said, texts, self.crate.name, places[edit.name], everywhere)
             more = 0.0
             if not verdict.refused:
                 _, verdict, more = self.alone(edit)
-            tried.append(Tried(edit.name, verdict, seconds + more))
+            tried.append(Tried(edit.name, verdict, seconds / len(edits) + more))
         return tried
 
     def try_all(self, edits: List[Edit]) -> List[Tried]:

@@ -2,13 +2,14 @@
 import io
 import os
 import re
+import sys
 from contextlib import redirect_stderr, redirect_stdout
 from types import SimpleNamespace
 from unittest import mock
 
 from support import Crates
 
-from wrong_edits import command, ledger
+from wrong_edits import command, kit, ledger
 from wrong_edits.choice import chosen, digests_of
 from wrong_edits.ledger import Entry
 from wrong_edits.trying import Tried
@@ -246,3 +247,11 @@ class Runs(Sources):
             self.assertEqual(self.run_command(WRONG_MINUTES="many")[0], 2)
             self.assertEqual(self.run_command("nowhere")[0], 2)
         self.assertRegex(said.getvalue(), r"(?s)usage: .*WRONG_MINUTES is many.*no crate is named nowhere")
+
+
+class Seconds(Crates):
+    def test_a_check_is_timed_by_its_own_processor_seconds(self):
+        idle = kit.timed([sys.executable, "-c", "import time; time.sleep(0.6); print('no'); raise SystemExit(3)"], str(self.folder))
+        busy = kit.timed([sys.executable, "-c", "import time\nwhile time.process_time() < 0.6: pass"], str(self.folder))
+        self.assertEqual((idle.status, idle.said, busy.status), (3, "no\n", 0))
+        self.assertTrue(idle.seconds < 0.5 and busy.seconds >= 0.5, (idle, busy))
