@@ -1,7 +1,7 @@
-"""Rows of command lines, of tests/program and crates/golden_commands, and what the second reading gives in the program's place.
+"""Rows of command lines, of tests/program and crates/golden_rows, and what the second reading gives in the program's place.
 
-Only commands that solve or follow a policy are read, over problems and journals that are not refused. Rows of crates/golden_library that
-measure training are read too.
+Only commands that solve, follow a policy or read a journal are read, over problems and journals that are not refused. Rows of
+crates/golden_measure that measure training are read too.
 """
 from __future__ import annotations
 
@@ -12,13 +12,14 @@ from typing import List, Optional, Sequence, Tuple
 
 from second_reading.journal import Kept, is_committed, journal_of
 from second_reading.problem import problem_of
-from second_reading.reports import Tree, bound_line, policy_of, train_lines
+from second_reading.reports import Tree, bound_line, check_lines, policy_of, train_lines
 from second_reading.stages import NoDecision
 from second_reading.training import Training
-from program_files import LIBRARY
+from program_files import GOLDEN
 
 TOP = Path(__file__).resolve().parents[2]
-COMMANDS = TOP / "crates" / "golden_commands" / "data"
+COMMANDS = GOLDEN / "data"
+MEASURE = TOP / "crates" / "golden_measure"
 PROGRAM = TOP / "tests" / "program"
 
 ENDS = ("hydroplan 1", "hydroplan: no stage solution: ", "hydroplan: range: ")
@@ -66,7 +67,7 @@ def row_of_program(line: str) -> Optional[CommandRow]:
 
 
 def row_of_commands(line: str) -> Optional[CommandRow]:
-    """A row of crates/golden_commands in which the program's own solver goes through a command."""
+    """A row of crates/golden_rows in which the program's own solver goes through a command."""
     kind, name, problem, *rest = line.split()
     if kind not in ("stops", "faults"):
         return None
@@ -76,7 +77,7 @@ def row_of_commands(line: str) -> Optional[CommandRow]:
 def command_rows() -> List[CommandRow]:
     """All rows that are read here."""
     rows = [*map(row_of_program, lines_of(PROGRAM)), *map(row_of_commands, lines_of(COMMANDS))]
-    return [row for row in rows if row and row.words[0:1] and row.words[0] in ("train", "simulate", "validate", "evaluate")
+    return [row for row in rows if row and row.words[0:1] and row.words[0] in ("train", "check", "simulate", "validate", "evaluate")
             and row.problem.is_file() and row.expected.read_text(encoding="utf-8").startswith(ENDS)]
 
 
@@ -90,6 +91,12 @@ def trained(text: bytes, before: bytes, words: Sequence[str]) -> Tuple[List[str]
         training, batch = Training(problem, int(words[1]), asked or 1), asked
     training.train(int(words[2]))
     return train_lines(training), journal_of(training, text, batch)
+
+
+def read(text: bytes, before: bytes) -> List[str]:
+    """The report of `check JOURNAL`."""
+    kept = Kept(before, problem_of(text))
+    return check_lines(kept.training, kept.rest)
 
 
 def followed(text: bytes, before: bytes, command: str, words: Sequence[str]) -> List[str]:
@@ -107,6 +114,8 @@ def outcome(row: CommandRow) -> Tuple[str, bytes]:
     text, before, (command, _, *words) = row.problem.read_bytes(), row.before(), row.words
     if command == "train":
         lines, after = trained(text, before, row.words[1:])
+    elif command == "check":
+        lines, after = read(text, before), before
     else:
         lines, after = followed(text, before, command, words), before
     return "".join(line + "\n" for line in lines), after
@@ -119,8 +128,8 @@ def expected(row: CommandRow) -> Tuple[str, bytes]:
 
 
 def measure_rows() -> List[str]:
-    """The lines of crates/golden_library by which training with the program's own solver is measured."""
-    lines = (LIBRARY / "data" / "rows.txt").read_text(encoding="utf-8").splitlines()
+    """The lines of crates/golden_measure by which training with the program's own solver is measured."""
+    lines = (MEASURE / "data" / "rows.txt").read_text(encoding="utf-8").splitlines()
     return [line for line in lines if line.startswith("measure ") and line.split()[3].startswith("warm-")]
 
 
@@ -128,7 +137,7 @@ def measured(line: str) -> List[str]:
     """Returns the lines expected of such a row: for each path how many programs it solved and how many answers were of no use."""
     _, _, name, solver, seed, batch, count = line.split()
     two = {"warm-one-chain": False, "warm-twice": False, "warm-two-chains": True}.get(solver)
-    training = Training(problem_of((LIBRARY / "data" / name).read_bytes()), int(seed), int(batch), two)
+    training = Training(problem_of((MEASURE / "data" / name).read_bytes()), int(seed), int(batch), two)
     training.train(int(count))
     lines = [f"iteration {entry.iteration} solves {sum(1 + len(made) for _, made in entry.steps)} unsettled {entry.unanswered}"
              for entries in training.records for entry in entries]

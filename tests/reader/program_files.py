@@ -1,4 +1,4 @@
-"""Files of programs in the form of crates/golden_library/data, whose README says what they hold, and answers as that crate prints them."""
+"""Files of programs in the form of crates/golden_rows/data, whose README says what they hold, and answers as that crate prints them."""
 from __future__ import annotations
 
 from pathlib import Path
@@ -8,7 +8,10 @@ from second_reading.ladder import Trace, answer_of, begin, start
 from second_reading.program import UNIT, Answer, Program
 from reader_rows import program_of
 
-LIBRARY = Path(__file__).resolve().parents[2] / "crates" / "golden_library"
+GOLDEN = Path(__file__).resolve().parents[2] / "crates" / "golden_rows"
+
+REFUSED = ("empty-box", "another-cut")
+"""The rows whose programs no solver takes."""
 
 Sides = List[Optional[int]]
 
@@ -76,11 +79,11 @@ def printed(answer: Answer) -> List[str]:
 
 def solve_rows() -> List[Tuple[str, str]]:
     """The lines of the index by which the program's own solver solves a file, each with the file's name."""
-    lines = (LIBRARY / "data" / "rows.txt").read_text(encoding="utf-8").splitlines()
-    return [(line, line.split()[2]) for line in lines if line.startswith("solve ") and line.endswith(" warm-simplex")]
+    lines = (GOLDEN / "data" / "rows.txt").read_text(encoding="utf-8").splitlines()
+    return [(line, line.split()[2]) for line in lines if line.startswith("solve ") and line.split()[1] not in REFUSED]
 
 
 def expected_lines(file: str) -> List[str]:
     """Returns the lines expected of a file of programs."""
-    text = (LIBRARY / "data" / file).read_text(encoding="utf-8")
+    text = (GOLDEN / "data" / file).read_text(encoding="utf-8")
     return [line for answer, _ in answers_of(text) for line in printed(answer)]

@@ -1,10 +1,10 @@
-"""Each file of programs in crates/golden_library that the program's own solver is to solve: what is stored there is the second reading's.
+"""Each file of programs in crates/golden_rows that the program's own solver is to solve: what is stored there is the second reading's.
 
 The second reading shares no code with the program, which is held to the same stored lines by its gate.
 """
 import unittest
 
-from program_files import LIBRARY, expected_lines, row_of_text, solve_rows
+from program_files import GOLDEN, expected_lines, row_of_text, solve_rows
 from second_reading.program import UNIT
 
 
@@ -15,10 +15,10 @@ class Solved(unittest.TestCase):
 
     def check(self, line, file):
         """The lines behind the row's own are the second reading's answers, one after another."""
-        stored = (LIBRARY / "stdout").read_text(encoding="utf-8").splitlines()
+        stored = (GOLDEN / "stdout").read_text(encoding="utf-8").splitlines()
         begin, expected = stored.index(line) + 1, expected_lines(file)
         self.assertEqual(stored[begin:begin + len(expected)], expected)
-        self.assertIn(stored[begin + len(expected)].split()[0], ("solve", "stage"))
+        self.assertIn(stored[begin + len(expected)].split()[0], ("solve", "parts"))
 
     def test_there_are_rows(self):
         self.assertEqual(len(solve_rows()), 40)

@@ -4,8 +4,7 @@ The second reading shares no code with the program, which is held to the same st
 """
 import unittest
 
-from command_rows import PROGRAM, TOP, command_rows, expected, measure_rows, measured, outcome
-from program_files import LIBRARY
+from command_rows import MEASURE, PROGRAM, TOP, command_rows, expected, measure_rows, measured, outcome
 from second_reading.cuts import OutOfRange, base_pools, bound_of, cut_of
 from second_reading.drawing import block, path_of, pick
 from second_reading.journal import Kept, journal_of
@@ -36,7 +35,7 @@ class Rows(unittest.TestCase):
     maxDiff = None
 
     def test_there_are_rows(self):
-        self.assertEqual(len(command_rows()), 36)
+        self.assertEqual(len(command_rows()), 45)
         self.assertEqual(len(measure_rows()), 7)
 
     def test_commands(self):
@@ -45,7 +44,7 @@ class Rows(unittest.TestCase):
                 self.assertEqual(outcome(row), expected(row))
 
     def test_measures(self):
-        stored = (LIBRARY / "stdout").read_text(encoding="utf-8").splitlines()
+        stored = (MEASURE / "stdout").read_text(encoding="utf-8").splitlines()
         for line in measure_rows():
             begin, made = stored.index(line) + 1, measured(line)
             with self.subTest(line):

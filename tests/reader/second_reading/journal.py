@@ -89,7 +89,8 @@ def is_committed(data: bytes) -> bool:
 
 
 class Kept:
-    """A journal as it was kept: its seed, how many paths an iteration has (None in version 1), and training that has its cuts."""
+    """A journal as it was kept: its seed, how many paths an iteration has (None in version 1), training that has its cuts, and how many
+    bytes stand behind the last commit byte."""
 
     def __init__(self, data: bytes, problem: Problem) -> None:
         head = Bytes(data)
@@ -101,3 +102,4 @@ class Kept:
         self.training = Training(problem, self.seed, self.batch or 1)
         for entries in records_in(head, problem, self.batch or 1):
             self.training.put(entries)
+        self.rest = max(len(data) - head.place, 0)

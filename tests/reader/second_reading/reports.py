@@ -64,6 +64,13 @@ def train_lines(training: Training) -> List[str]:
     return [*head(training.problem), *bounds, total, bound_line(training.problem, training.pools)]
 
 
+def check_lines(training: Training, rest: int) -> List[str]:
+    """The report of a journal that has a training and so many bytes behind it."""
+    cuts = [words("cut", node, place, it.alpha, it.slopes) for node, pool in enumerate(training.pools) for place, it in enumerate(pool)]
+    front, names = train_lines(training), head(training.problem)
+    return [*names, *cuts, *front[len(names):], f"rest {rest}"]
+
+
 @dataclass(frozen=True)
 class Decided:
     """A stage as it was decided: the kind of the answer, the decisions, by how much each row is missed, and the cost."""
