@@ -1,4 +1,4 @@
-"""Rows whose multipliers in a journal stand at an end of 64 bits (docs/FORMAT.md, The journal): what they are worth is more, and is cut off there."""
+"""Rows whose multipliers in a journal stand at an end of 64 bits (docs/use/FORMAT.md, The journal): what they are worth is more, and is cut off there."""
 from __future__ import annotations
 
 import json

@@ -1,4 +1,4 @@
-"""How many iterations and scenarios the size of a problem allows: the formulas of docs/FORMAT.md, which the program tries first."""
+"""How many iterations and scenarios the size of a problem allows: the formulas of docs/use/FORMAT.md, which the program tries first."""
 from __future__ import annotations
 
 import json

@@ -1,7 +1,7 @@
 """Models: stages, nodes with realizations and successors, and the root's initial state. This is where a model is made.
 
 Names are those of SDDP.jl and MSPPy: a stage has variables, states, random variables, constraints and an objective; a
-policy graph has nodes with weights. Numbers are exact (`hydroplan.exact`). docs/MODELS.md builds three models.
+policy graph has nodes with weights. Numbers are exact (`hydroplan.exact`). docs/use/MODELS.md builds three models.
 """
 from __future__ import annotations
 

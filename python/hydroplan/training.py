@@ -35,7 +35,7 @@ def fresh_seed(seed: int, iteration: int, part: int) -> int:
 
 
 def kept_batch(journal: Path) -> int:
-    """The paths of an iteration with which a journal was made; 1 where there is none, or it says none (docs/FORMAT.md, The journal)."""
+    """The paths of an iteration with which a journal was made; 1 where there is none, or it says none (docs/use/FORMAT.md, The journal)."""
     try:
         with journal.open("rb") as file:
             head = file.read(53)

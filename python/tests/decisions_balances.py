@@ -20,7 +20,7 @@ def rows_of(path):
 
 
 def paths_of(case, results):
-    """The stages of each scenario, with the names of docs/PLANTS.md and the outcome that its inflows and demands have."""
+    """The stages of each scenario, with the names of docs/use/PLANTS.md and the outcome that its inflows and demands have."""
     found = defaultdict(dict)
     for row in rows_of(results / "decisions.csv"):
         stage = found[int(row["scenario"])].setdefault(int(row["stage"]), ExactStage(int(row["stage"])))

@@ -1,7 +1,7 @@
 """The extensive form of a case of plants: one linear program over its scenario tree, read from the members of the elements anew.
 
 Nothing here goes through `hydroplan.Model` or the tables of `hydroplan.plants`: it is a second reading, with plain dictionaries, of
-docs/PLANTS.md. HiGHS solves it (Huangfu and Hall 2018, by scipy.optimize.linprog).
+docs/use/PLANTS.md. HiGHS solves it (Huangfu and Hall 2018, by scipy.optimize.linprog).
 """
 from __future__ import annotations
 

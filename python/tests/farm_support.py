@@ -45,7 +45,7 @@ def trained(problem: bytes, journal: Path, seed: int, count: int, *batch: str) -
 
 
 def with_seed(journal: Path, copy: Path, seed: int) -> Path:
-    """A copy of a journal with another seed in its head (docs/FORMAT.md: bytes 43 to 50)."""
+    """A copy of a journal with another seed in its head (docs/use/FORMAT.md: bytes 43 to 50)."""
     data = bytearray(journal.read_bytes())
     data[43:51] = seed.to_bytes(8, "big")
     copy.write_bytes(data)
@@ -69,7 +69,7 @@ def number(value: int, size: int) -> bytes:
 
 
 def journal_bytes(problem: bytes, seed: int, payloads: Iterable[bytes], batch: Optional[int] = None) -> bytes:
-    """A journal, by docs/FORMAT.md."""
+    """A journal, by docs/use/FORMAT.md."""
     version = number(1, 2) if batch is None else number(2, 2)
     head = b"\x01HYDPLAN1" + version + hashlib.sha256(problem).digest() + number(seed, 8) + (b"" if batch is None else number(batch, 2))
     return head + b"".join(b"\x01" + number(len(it), 4) + it for it in payloads) + b"\x00"

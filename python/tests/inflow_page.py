@@ -1,4 +1,4 @@
-"""The blocks of docs/INFLOWS.md: Python in one namespace, commands by their function, and texts that have what the block before printed."""
+"""The blocks of docs/use/INFLOWS.md: Python in one namespace, commands by their function, and texts that have what the block before printed."""
 from __future__ import annotations
 
 import contextlib
@@ -12,7 +12,7 @@ from typing import Dict, List
 from inflow_support import TOP, TWO_STATIONS
 from hydroplan.inflows.command import main
 
-PAGE = TOP / "docs" / "INFLOWS.md"
+PAGE = TOP / "docs" / "use" / "INFLOWS.md"
 BLOCK = re.compile(r"```(python|text|sh)\n(.*?)```\n", re.DOTALL)
 COMMAND = ["python3", "-m", "hydroplan.inflows"]
 
@@ -35,7 +35,7 @@ def run_blocks(text: str) -> str:
 
 def _printed(block: str, line: int, names: Dict[str, object]) -> str:
     with contextlib.redirect_stdout(io.StringIO()) as out:
-        exec(compile("\n" * line + block, "docs/INFLOWS.md", "exec"), names)
+        exec(compile("\n" * line + block, "docs/use/INFLOWS.md", "exec"), names)
     return out.getvalue()
 
 

@@ -1,4 +1,4 @@
-"""The optima of examples/README.md, and the blocks of docs/MODELS.md.
+"""The optima of examples/README.md, and the blocks of docs/use/MODELS.md.
 
 Blocks of Python are run in one namespace, and blocks of text have what the block before them printed.
 """
@@ -12,7 +12,7 @@ from typing import Dict, Tuple
 
 from model_support import TOP
 
-PAGE = TOP / "docs" / "MODELS.md"
+PAGE = TOP / "docs" / "use" / "MODELS.md"
 OPTIMUM = re.compile(r"^\| `(\w+)\.json` \| [^|]* \| [^|]* \| (-?[0-9.,]+)", re.MULTILINE)
 BLOCK = re.compile(r"```(python|text)\n(.*?)```\n", re.DOTALL)
 
@@ -36,6 +36,6 @@ def run_blocks(text: str) -> Tuple[str, Dict[str, object]]:
         renewed.append(block.group())
         line = text.count("\n", 0, block.start(2))
         with contextlib.redirect_stdout(io.StringIO()) as out:
-            exec(compile("\n" * line + block.group(2), "docs/MODELS.md", "exec"), names)
+            exec(compile("\n" * line + block.group(2), "docs/use/MODELS.md", "exec"), names)
         printed = out.getvalue()
     return "".join([*renewed, text[end:]]), names

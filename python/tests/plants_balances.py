@@ -1,4 +1,4 @@
-"""Balances of water and energy of a path, recomputed from its decisions alone in fractions, by the names of docs/PLANTS.md.
+"""Balances of water and energy of a path, recomputed from its decisions alone in fractions, by the names of docs/use/PLANTS.md.
 
 Nothing is taken from the rows of the model: each balance is the sum of what the elements of the case say, with exact numbers.
 """

@@ -1,4 +1,4 @@
-"""Small studies drawn at random, as the files of a folder: each feature of docs/PLANTS.md on or off, in every spelling of docs/STUDIES.md.
+"""Small studies drawn at random, as the files of a folder: each feature of docs/use/PLANTS.md on or off, in every spelling of docs/use/STUDIES.md.
 
 A draw takes a `random.Random`, or what hypothesis has in its place (`drawn_studies`), which makes a wrong study smaller. Numbers have few
 decimals, so that hardly any has to be rounded, and fit the hours of a stage: what is turbined is about 10 hm3 whether a stage is ten

@@ -3,7 +3,7 @@
 S is 2^24, and Q the total of a node's successor weights, 1 at a last node. Training has converged where along each branch of its policy each
 node has a cut that was made at the state that comes in, with the last cuts behind it. Then the bound is at least what this policy costs,
 and so the least cost, less what the cuts of each node lose. A cut is the least value of a stage's cost over the boxes of its variables where
-each row, and each cut of the next node, stands with a multiplier in place of being kept (docs/THEORY.md). At best multipliers that
+each row, and each cut of the next node, stands with a multiplier in place of being kept (docs/inside/THEORY.md). At best multipliers that
 is the least cost of the stage; rounding loses this, and no more:
 
 - `_coefficients`: a cut's slopes are rounded down to multiples of 1/S where the box begins, and its first number once more. So it loses 1/S

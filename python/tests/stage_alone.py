@@ -10,7 +10,7 @@ from hydroplan.plants import As, Way
 
 
 def missed_alone(case, stage, values, state) -> float:
-    """What HiGHS cannot meet in a stage from 1; `values` are those of stations, `state` has what comes in by the names of docs/PLANTS.md."""
+    """What HiGHS cannot meet in a stage from 1; `values` are those of stations, `state` has what comes in by the names of docs/use/PLANTS.md."""
     alone = replace(case, elements=[_coming(it, stage, state) for it in case.elements])
     return Extensive(alone, [TreeNode(stage, 1.0, values, None)]).missed()
 

@@ -1,4 +1,4 @@
-"""The page docs/STUDIES.md: its study is written to a folder, its commands and its Python are run, and blocks of text have what they print."""
+"""The page docs/use/STUDIES.md: its study is written to a folder, its commands and its Python are run, and blocks of text have what they print."""
 from __future__ import annotations
 
 import contextlib
@@ -11,7 +11,7 @@ from typing import Dict
 from model_support import TOP
 from hydroplan.study import main
 
-PAGE = TOP / "docs" / "STUDIES.md"
+PAGE = TOP / "docs" / "use" / "STUDIES.md"
 BLOCK = re.compile(r"```(toml|sh|python|text)\n(.*?)```\n", re.DOTALL)
 COMMAND = ["./hydroplan", "study"]
 
@@ -38,7 +38,7 @@ def _run(kind: str, content: str, names: Dict[str, object]) -> None:
         Path("plan").mkdir(exist_ok=True)
         Path("plan/study.toml").write_text(content, encoding="utf-8")
     elif kind == "python":
-        exec(compile(content, "docs/STUDIES.md", "exec"), names)
+        exec(compile(content, "docs/use/STUDIES.md", "exec"), names)
     else:
         words = shlex.split(content)
         assert words[:2] == COMMAND, words

@@ -1,4 +1,4 @@
-"""A second reading of a folder with study.toml and CSV files, by docs/STUDIES.md and docs/PLANTS.md alone: a case for the extensive form.
+"""A second reading of a folder with study.toml and CSV files, by docs/use/STUDIES.md and docs/use/PLANTS.md alone: a case for the extensive form.
 
 Nothing here goes through `hydroplan.study` or the tables of `hydroplan.plants`: files are read by `tomllib` and `csv`, defaults stand here
 again, and each number becomes a list with an entry for each stage. Classes of `hydroplan.plants` hold what was read, as `extensive_plants`

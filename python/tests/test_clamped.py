@@ -47,7 +47,7 @@ class Clamped(StudyFolder):
         warned = [line for line in errors.splitlines() if "warning" in line]
         self.assertEqual(warned, [
             "study: warning: one unit of the row 'water:lake' of stage '2' is worth more money than 64 bits hold, so the bound may stay far below "
-            "the least cost; a coarser resolution.cost ends this (docs/GUIDE.md, section 6)"
+            "the least cost; a coarser resolution.cost ends this (docs/use/GUIDE.md, section 6)"
         ])
         # the least cost is 3.8e12: 5000 MWh are missing at 4e8, and 2000 at 9e8, for which the water is kept
         self.assertIn("no policy costs less than 3,099,511,627,769.44 money", output)
@@ -75,7 +75,7 @@ class Clamped(StudyFolder):
 
 class Journals(StudyFolder):
     def test_numbers_by_hand(self):
-        # a record of docs/FORMAT.md: one step at node 0, two realizations with two rows each; 2^63 - 1 and -2^63 in the place of -5 and 5
+        # a record of docs/use/FORMAT.md: one step at node 0, two realizations with two rows each; 2^63 - 1 and -2^63 in the place of -5 and 5
         compiled, journal = one_reservoir().compile(), Path(self.folder) / "a.journal"
         train(compiled, journal, seed=7, iterations=1, progress=False)
         self.assertEqual(clamped_rows(compiled, journal), [])

@@ -1,4 +1,4 @@
-"""The page docs/INFLOWS.md: its blocks are run one after the other, and what they print is compared."""
+"""The page docs/use/INFLOWS.md: its blocks are run one after the other, and what they print is compared."""
 import os
 import re
 import unittest

@@ -1,4 +1,4 @@
-"""The page docs/MODELS.md: its blocks are run one after the other, what they print is compared, and bounds with the optima from outside."""
+"""The page docs/use/MODELS.md: its blocks are run one after the other, what they print is compared, and bounds with the optima from outside."""
 import os
 import unittest
 from fractions import Fraction as F

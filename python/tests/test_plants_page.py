@@ -1,4 +1,4 @@
-"""The page docs/PLANTS.md: its blocks are run, what they print is compared, and its example has the optimum of its extensive form."""
+"""The page docs/use/PLANTS.md: its blocks are run, what they print is compared, and its example has the optimum of its extensive form."""
 import os
 import re
 import unittest
@@ -12,7 +12,7 @@ from random_plants import Case
 from hydroplan import plants
 from hydroplan.plants.element import Element
 
-PAGE = TOP / "docs" / "PLANTS.md"
+PAGE = TOP / "docs" / "use" / "PLANTS.md"
 BLOCKS = {"peak": [186, 168, 186], "base": [558, 504, 558]}
 
 

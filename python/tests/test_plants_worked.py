@@ -1,4 +1,4 @@
-"""Small systems whose least cost is found by hand, one for each part; docs/PLANTS.md has the equations."""
+"""Small systems whose least cost is found by hand, one for each part; docs/use/PLANTS.md has the equations."""
 import unittest
 from decimal import Decimal
 from fractions import Fraction as F

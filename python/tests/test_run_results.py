@@ -27,7 +27,7 @@ class Trained(Folder):
 
 class Checks(Trained):
     def test_cuts_and_water_values(self):
-        # by seed 3, as in docs/GUIDE.md: with 200 in store before the first stage a unit more saves 50, and a unit less costs 61.11
+        # by seed 3, as in docs/use/GUIDE.md: with 200 in store before the first stage a unit more saves 50, and a unit less costs 61.11
         compiled = self.trained(three_stages(), seed=3)
         found = check(compiled, self.journal)
         self.assertAlmostEqual(found.water_values("1", {"volume": 200})["volume"], 50, places=3)
@@ -215,7 +215,7 @@ class Units(Trained):
         self.assertAlmostEqual(checked.bound / optimum, 1, places=6)
         self.assertLessEqual(checked.exact_bound, F(25000, 3) * unit * price)
         self.assertAlmostEqual(policy.upper / optimum, 1, places=6)
-        # docs/GUIDE.md: 11,388.89 at 150 units, 8,333.33 at 200; the cost is convex, and a unit saves at least the least price of fuel
+        # docs/use/GUIDE.md: 11,388.89 at 150 units, 8,333.33 at 200; the cost is convex, and a unit saves at least the least price of fuel
         worth = checked.water_values("1", {"volume": 200 * unit})["volume"] / float(price)
         self.assertTrue(50 - 1e-4 < worth < (11388.89 - 8333.33) / 50 + 1e-4, worth)
         for scenario in simulate(compiled, self.journal, seed=3, scenarios=3).scenarios:

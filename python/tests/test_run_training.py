@@ -55,7 +55,7 @@ class Trained(Folder):
         compiled = three_stages().compile()
         self.train(compiled, iterations=3)
         damaged = bytearray(self.journal.read_bytes())
-        # docs/FORMAT.md, The journal: the first commit byte of version 1 is byte 51
+        # docs/use/FORMAT.md, The journal: the first commit byte of version 1 is byte 51
         damaged[51] = 7
         self.journal.write_bytes(damaged)
         with self.assertWarnsRegex(RuntimeWarning, "has 0 records that count, .*the gate at byte 51 holds 7.*\n.*stays in .*plan.journal.kept"):

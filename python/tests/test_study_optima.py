@@ -1,8 +1,8 @@
 """Studies drawn at random: the compiled problems and their certified bounds beside the least cost that HiGHS finds, and balances recomputed from
 decisions.csv.
 
-Each study is a folder of study.toml and CSV files. A second reading of these files alone gives the extensive form; docs/STUDIES.md and
-docs/PLANTS.md are all that the two have in common. Hypothesis draws the compared ones, the same each time; `many_studies` draws thousands
+Each study is a folder of study.toml and CSV files. A second reading of these files alone gives the extensive form; docs/use/STUDIES.md and
+docs/use/PLANTS.md are all that the two have in common. Hypothesis draws the compared ones, the same each time; `many_studies` draws thousands
 by hand.
 """
 import contextlib

@@ -1,4 +1,4 @@
-"""The page docs/STUDIES.md: its blocks are run, what they print is compared, and it has all keys. The studies that are there have what it says."""
+"""The page docs/use/STUDIES.md: its blocks are run, what they print is compared, and it has all keys. The studies that are there have what it says."""
 import csv
 import os
 import re
@@ -27,8 +27,8 @@ class Page(Folder):
         text = PAGE.read_text(encoding="utf-8")
         self.maxDiff = None
         self.assertEqual(text, run_page(text))
-        # the system of docs/PLANTS.md: its page has its bounds, and a test the optimum of its extensive form
-        between = re.search(r"between (\d+\.\d+) and (\d+\.\d+)", (TOP / "docs" / "PLANTS.md").read_text(encoding="utf-8"))
+        # the system of docs/use/PLANTS.md: its page has its bounds, and a test the optimum of its extensive form
+        between = re.search(r"between (\d+\.\d+) and (\d+\.\d+)", (TOP / "docs" / "use" / "PLANTS.md").read_text(encoding="utf-8"))
         self.assertIn(f"no policy costs less than {float(between[1]):,.2f} EUR", text)
         self.assertIn(f"the trained policy costs at most {float(between[2]):,.2f} EUR", text)
 

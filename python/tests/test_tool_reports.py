@@ -1,4 +1,4 @@
-"""Reports of evaluate and robust as values. The lines are those that docs/FORMAT.md gives."""
+"""Reports of evaluate and robust as values. The lines are those that docs/use/FORMAT.md gives."""
 import unittest
 from fractions import Fraction as F
 

@@ -2,7 +2,7 @@
 
 On its way the solver passes over a column whose cell is below 2^-16. Such a column may stay at its wrong bound, where no multiplier makes up for
 it. Then the point costs more than the duals show, and the cut says what these show. Where it is more by over 2^-26 of both the answer is weak
-(docs/THEORY.md, The warm simplex): its basis is taken into a clean table, and there the best answer is found. With 2^-18 in that place the bounds
+(docs/inside/THEORY.md, The warm simplex): its basis is taken into a clean table, and there the best answer is found. With 2^-18 in that place the bounds
 of all that is here would stay below the least cost by more than rounding; the second reading in tests/reader shows it.
 """
 import json

@@ -271,7 +271,7 @@ class Harms(InFolder):
 
 class Index(unittest.TestCase):
     def test_statuses_are_those_of_the_table(self) -> None:
-        page = (TOP / "docs" / "FORMAT.md").read_text(encoding="utf-8")
+        page = (TOP / "docs" / "use" / "FORMAT.md").read_text(encoding="utf-8")
         table = page.partition("\n# Statuses\n")[2].partition("\n# ")[0]
         lines = {text: int(number) for number, text in re.findall(r"^\| (\d+) \| `([^`]*)` \|", table, re.M)}
         self.assertEqual(sorted(lines.values()), sorted(STATUSES.values()))

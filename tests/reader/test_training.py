@@ -87,7 +87,7 @@ class Parts(unittest.TestCase):
         self.assertEqual(pick([1], (1 << 32) - 1), 0)
 
     def test_cut(self):
-        """docs/THEORY.md works it out: y = -5, 5 in both realizations gives 35 - 5v, which is 15 at 4."""
+        """docs/inside/THEORY.md works it out: y = -5, 5 in both realizations gives 35 - 5v, which is 15 at 4."""
         problem = problem_of(example("one_reservoir"))
         pools = base_pools(problem)
         self.assertEqual((pools, bound_of(problem, pools)), ([[Cut(0, (0,))]], 0))

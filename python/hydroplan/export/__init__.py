@@ -1,6 +1,6 @@
 """Tables in wide form from a folder of results: a row for each date, a column for each element, to be put into a spreadsheet.
 
-docs/REPORTS.md shows it. It needs Debian's python3-numpy and python3-pandas.
+docs/use/TOOLS.md shows it. It needs Debian's python3-numpy and python3-pandas.
 """
 from __future__ import annotations
 

@@ -134,7 +134,7 @@ def say(text: str) -> None:
 
 
 def main(words: Optional[List[str]] = None) -> int:
-    """Runs a command; the status, as docs/FORMAT.md has it."""
+    """Runs a command; the status, as docs/use/FORMAT.md has it."""
     found = parser().parse_args(words)
     try:
         {"join": run_join, "train": run_train, "simulate": run_simulate}[found.command](found)

@@ -5,7 +5,7 @@ from ..errors import HydroplanError
 
 
 class FarmError(HydroplanError):
-    """Words, journals or a cluster with which nothing can be done. `status` is what the command ends with, as docs/FORMAT.md has it."""
+    """Words, journals or a cluster with which nothing can be done. `status` is what the command ends with, as docs/use/FORMAT.md has it."""
 
     def __init__(self, message: str, status: int) -> None:
         super().__init__(message)

@@ -1,4 +1,4 @@
-"""Journals as files (docs/FORMAT.md, The journal): their headers, their records one at a time, and a journal that grows by whole rounds."""
+"""Journals as files (docs/use/FORMAT.md, The journal): their headers, their records one at a time, and a journal that grows by whole rounds."""
 from __future__ import annotations
 
 import fcntl

@@ -1,4 +1,4 @@
-"""Where the numbers of lists of pairs stand in the bytes of a certificate (docs/FORMAT.md, The journal), where each list has one pair."""
+"""Where the numbers of lists of pairs stand in the bytes of a certificate (docs/use/FORMAT.md, The journal), where each list has one pair."""
 from __future__ import annotations
 
 from functools import lru_cache

@@ -1,4 +1,4 @@
-"""A process of `hydroplan_worker`, which lives on between rounds and keeps the records that were joined (docs/CLUSTER.md, The living worker).
+"""A process of `hydroplan_worker`, which lives on between rounds and keeps the records that were joined (docs/use/CLUSTER.md, The living worker).
 
 It is written to and read from without waiting, so that one thread can serve several of them.
 """

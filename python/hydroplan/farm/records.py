@@ -1,4 +1,4 @@
-"""The bytes of records (docs/FORMAT.md, The journal): entries, the cuts that they add, and the places of cuts in their pairs.
+"""The bytes of records (docs/use/FORMAT.md, The journal): entries, the cuts that they add, and the places of cuts in their pairs.
 
 Most lists of pairs have one pair. So the numbers of several realizations are read at once, and realizations whose lists have other lengths
 are gone through one by one. Places in a list rise, so where the last one is a cut that the journals share, all of them are.

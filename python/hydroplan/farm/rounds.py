@@ -22,6 +22,6 @@ def part_seed(seed: int, part: int) -> int:
 def iterations_of_round(records: int, count: int, parts: int) -> Tuple[int, ...]:
     """The iterations of each part of the round that begins with so many records, of `count` in the end; empty where none is left.
 
-    Each part has one: parts do not know of each other's cuts within a round, and what a round costs beside is little (docs/DECISIONS.md).
+    Each part has one: parts do not know of each other's cuts within a round, and what a round costs beside is little (docs/inside/DECISIONS.md).
     """
     return (1,) * min(parts, count - records)

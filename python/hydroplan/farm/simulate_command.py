@@ -30,7 +30,7 @@ class SimulationWords:
 def simulate(words: SimulationWords, problem: bytes, say: Callable[[str], None], engine_from: Callable[[], Engine]) -> Iterator[str]:
     """Follows the policy of a journal along scenarios that workers simulate; the lines of the report, as one program would write them.
 
-    FarmError with a status as in docs/FORMAT.md where the program refuses the problem, the journal or the words, or no worker is left.
+    FarmError with a status as in docs/use/FORMAT.md where the program refuses the problem, the journal or the words, or no worker is left.
     """
     shape, program = shape_of(problem), built_program(words.program)
     simulation = FarmSimulation(problem, shape, program, words.journal, parts_of(shape, words.seed, words.count))

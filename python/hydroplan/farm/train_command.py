@@ -86,7 +86,7 @@ class AtWork:
 def train(words: Words, problem: bytes, say: Callable[[str], None], engine_from: Callable[[Words], Engine] = engine_of) -> List[str]:
     """Trains a journal until it has so many iterations; the lines of the report, as the program's `train` prints them.
 
-    FarmError with a status as in docs/FORMAT.md where the program refuses the problem, the journal or the words, or no worker is left.
+    FarmError with a status as in docs/use/FORMAT.md where the program refuses the problem, the journal or the words, or no worker is left.
     """
     program = built_program(words.program)
     with closing(AtWork(words, engine_from)) as at_work:

@@ -1,7 +1,7 @@
 """From records of inflow to realizations for a multistage model: years, groups of years, Markov classes, autoregression.
 
 `read_record` reads a record. `independent_years`, `grouped_years`, `markov_classes` and `periodic_autoregression` make
-realizations of it, `compare` says what they keep, and `model_with_inflows` hands them to `hydroplan.model`. docs/INFLOWS.md says
+realizations of it, `compare` says what they keep, and `model_with_inflows` hands them to `hydroplan.model`. docs/use/INFLOWS.md says
 which to take. All of it stands outside the proved core.
 """
 from .adapter import model_with_inflows, policy_graph

@@ -22,7 +22,7 @@ from .writing import write_csv, write_json
 from .years import independent_years
 
 DESCRIPTION = """Makes realizations for the stages of a model from a record of inflow, prints the record beside them, and writes them to
-files. The record is a CSV file with the columns year, month (or week, or step), and one for each station. docs/INFLOWS.md says
+files. The record is a CSV file with the columns year, month (or week, or step), and one for each station. docs/use/INFLOWS.md says
 which method to take."""
 MOST_NOTES = 12
 WRITERS = {".csv": write_csv, ".json": write_json}

@@ -1,4 +1,4 @@
-"""Systems of hydro and thermal plants in the user's units, compiled to a `hydroplan.Model`; docs/PLANTS.md has their equations.
+"""Systems of hydro and thermal plants in the user's units, compiled to a `hydroplan.Model`; docs/use/PLANTS.md has their equations.
 
     system = System(stages=3)
     system.add(Bus("city", demand=150, deficit=500), Thermal("gas", bus="city", maximum=150, cost=[50, 100, 150]))

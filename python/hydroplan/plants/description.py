@@ -1,4 +1,4 @@
-"""A system as a description of hydro plants: what `hydroplan hydro` reads (docs/FORMAT.md), for the systems that it has words for."""
+"""A system as a description of hydro plants: what `hydroplan hydro` reads (docs/use/FORMAT.md), for the systems that it has words for."""
 from __future__ import annotations
 
 import json

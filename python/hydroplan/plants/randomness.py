@@ -1,4 +1,4 @@
-"""What is drawn at the nodes of a system's policy graph: outcomes of its own, or those of a model of inflow (docs/INFLOWS.md)."""
+"""What is drawn at the nodes of a system's policy graph: outcomes of its own, or those of a model of inflow (docs/use/INFLOWS.md)."""
 from __future__ import annotations
 
 from dataclasses import dataclass, field, replace

@@ -86,7 +86,7 @@ class System:
         ]
 
     def inflows(self, inflows: Inflows) -> None:
-        """Sets the realizations of each stage by a model of inflow: years, groups, Markov classes or an autoregression (docs/INFLOWS.md).
+        """Sets the realizations of each stage by a model of inflow: years, groups, Markov classes or an autoregression (docs/use/INFLOWS.md).
 
         Classes give a node for each stage and class; an autoregression carries the value of each station on as a state. Stations that
         no element asks for are left out.

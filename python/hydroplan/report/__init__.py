@@ -1,6 +1,6 @@
 """The report of a study: one page, `report.html`, from its folder of results.
 
-The page stands by itself: its pictures are SVG within it, and it needs no network. docs/REPORTS.md says how each number is made.
+The page stands by itself: its pictures are SVG within it, and it needs no network. docs/use/TOOLS.md says how each number is made.
 It needs Debian's python3-jinja2, python3-numpy and python3-pandas.
 """
 from __future__ import annotations

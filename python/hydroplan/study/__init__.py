@@ -1,4 +1,4 @@
-"""Studies: a folder with study.toml and CSV files becomes a trained policy and a folder of results; docs/STUDIES.md has all keys.
+"""Studies: a folder with study.toml and CSV files becomes a trained policy and a folder of results; docs/use/STUDIES.md has all keys.
 
 `read_study` reads a folder, `train_study` trains on its journal, `write_results` simulates and writes the results, and `main` is the command
 `hydroplan study`. All of it stands outside the proved core.

@@ -24,7 +24,7 @@ from .study_training import train_study
 
 DESCRIPTION = """Reads FOLDER/study.toml and the CSV files that it names, trains on FOLDER/study.journal until a rule of the study says to stop,
 simulates, and writes FOLDER/results. Run again after a change of options alone, it goes on from the journal; after a change of data it begins
-anew, and keeps the old journal under another name. docs/STUDIES.md has all keys."""
+anew, and keeps the old journal under another name. docs/use/STUDIES.md has all keys."""
 INTERRUPTED = 130
 LEDGER_LINES = 10
 PLURALS = {"bus": "buses", "battery": "batteries"}
@@ -91,7 +91,7 @@ def _warn_of_clamped(study: Study, journal: KeptJournal) -> None:
         others = f" and of {len(rows) - 1} more" if len(rows) > 1 else ""
         _say(
             f"warning: one unit of the row {rows[0][1]!r} of stage {rows[0][0]!r}{others} is worth more money than 64 bits hold, so the bound may stay "
-            "far below the least cost; a coarser resolution.cost ends this (docs/GUIDE.md, section 6)"
+            "far below the least cost; a coarser resolution.cost ends this (docs/use/GUIDE.md, section 6)"
         )
 
 

@@ -1,7 +1,7 @@
 """Looks at a journal before training cuts off what stands behind its last record, and keeps a copy where that is too much.
 
 Outside the proved core. An interrupted write leaves, behind a commit byte other than 1, the front of one record: four bytes of its
-length, its payload, which begins with the number of the iteration, and the commit byte behind it (docs/FORMAT.md, The journal). Where
+length, its payload, which begins with the number of the iteration, and the commit byte behind it (docs/use/FORMAT.md, The journal). Where
 anything else stands there, a commit byte or a header was changed; training would cut it off without a word. It is said on standard
 error, where a commit byte is called a gate, and JOURNAL.kept (or .kept-2 and so on) gets the same bytes.
 

@@ -110,7 +110,7 @@ def explain_line(root: Cursor, line: str) -> list[str]:
         if found is not None:
             return reader(root, found)
     said = explain_status(root.document.text.encode("utf-8"), line)
-    return said if said is not None else ["this line names no place of the problem; docs/FORMAT.md says what each status means"]
+    return said if said is not None else ["this line names no place of the problem; docs/use/FORMAT.md says what each status means"]
 
 
 def _refusal(root: Cursor, refusal: Refusal) -> list[str]:

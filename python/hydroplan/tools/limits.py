@@ -1,4 +1,4 @@
-"""The formulas that bound what a run takes (docs/FORMAT.md), computed from a problem file, and what fits them.
+"""The formulas that bound what a run takes (docs/use/FORMAT.md), computed from a problem file, and what fits them.
 
 Outside the proved core: it reads the problem again on its own, and the program's line decides.
 """

@@ -1,6 +1,6 @@
 """A folder of results that `study` writes, as what `plot` draws: bounds beside the mean of scenarios, and stored water by date.
 
-Outside the proved core. docs/STUDIES.md has the files of the folder.
+Outside the proved core. docs/use/STUDIES.md has the files of the folder.
 """
 from __future__ import annotations
 

@@ -152,7 +152,7 @@ def manual(table: Table) -> str:
         "WORDS OF THE SCRIPT": _told(script),
         "WORDS": "A number is digits alone, without a sign and without a leading zero.\n" + _items(words),
         "EXIT STATUS": _items((str(number), meaning) for number, meaning in table.statuses()),
-        "SEE ALSO": "docs/GUIDE.md for planners, docs/FORMAT.md for each member of a problem and each line of a report.\n",
+        "SEE ALSO": "docs/use/GUIDE.md for planners, docs/use/FORMAT.md for each member of a problem and each line of a report.\n",
     }
     head = '.\\" Made of bin/commands.txt by bin/write-pages; a change here is lost.\n.TH HYDROPLAN 1 "" hydroplan ""\n'
     return head + "".join(f".SH {name}\n{text}" for name, text in parts.items())

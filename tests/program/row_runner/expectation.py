@@ -9,7 +9,7 @@ from .rows import unhexed
 
 NAME = b"hydroplan: "
 
-# How the line of each status begins, as docs/FORMAT.md has them. A run without a line ends with 0.
+# How the line of each status begins, as docs/use/FORMAT.md has them. A run without a line ends with 0.
 STATUSES = {
     "usage: ": 2,
     "problem could not be read": 3,
