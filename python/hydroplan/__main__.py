@@ -53,6 +53,17 @@ def run(words: Sequence[str]) -> int:
     return status
 
 
+def command() -> int:
+    """Runs the command `hydroplan` of an installed package: the script beside the program, in the place of this process."""
+    import os
+
+    from .repository import TOP
+
+    script = str(TOP / "hydroplan")
+    os.environ["HYDROPLAN_PYTHON"] = sys.executable
+    os.execv(script, [script, *sys.argv[1:]])
+
+
 def libraries_of(name: str, rest: Sequence[str]) -> tuple[str, ...]:
     """The libraries that a command needs with the words behind its name."""
     if any(it in ("-h", "--help") for it in rest):
