@@ -16,8 +16,8 @@ from typing import Any, Dict, Iterable, Iterator, List, Optional, Tuple
 TOP = Path(__file__).resolve().parent.parent
 # what stands in the folder `program` of the installed package as it does at the top of the repository
 PROGRAM = (
-    "hydroplan", "python/__main__.py", "bin/CRATES", "bin/SHA256SUMS", "bin/commands.txt", "bin/hydroplan-x86_64-linux", "bin/worker/CRATES",
-    "bin/worker/SHA256SUMS", "bin/worker/hydroplan_worker-x86_64-linux",
+    "hydroplan", "python/__main__.py", "bin/CRATES", "bin/SHA256SUMS", "bin/choose.bash", "bin/commands.txt", "bin/hydroplan-x86_64-linux",
+    "bin/words.bash", "bin/worker/CRATES", "bin/worker/SHA256SUMS", "bin/worker/hydroplan_worker-x86_64-linux",
 )
 TAG = "py3-none-linux_x86_64"
 EXECUTABLE, PLAIN = 0o100755, 0o100644

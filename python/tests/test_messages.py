@@ -31,8 +31,8 @@ class OfThePackage(Messages):
         errors = io.StringIO()
         with contextlib.redirect_stderr(errors):
             self.assertEqual((main(["nothing"]), main([])), (2, 2))
-        usage = "usage: python3 -m hydroplan study|report|export|join|train|simulate|convert|explain|plot|watch ..\n"
-        self.assertEqual(errors.getvalue(), 2 * usage)
+        hint = "./hydroplan help lists the commands, and ./hydroplan help COMMAND says what one takes and prints\n"
+        self.assertEqual(errors.getvalue(), f"hydroplan: there is no command `nothing`\n{hint}hydroplan: a command is missing\n{hint}")
 
 
 class OfModels(Messages):

@@ -117,6 +117,11 @@ def training(seed: int, count: int) -> bytes:
     return b"T" + seed.to_bytes(8, "big") + count.to_bytes(4, "big")
 
 
+def is_plain(words: Sequence[str]) -> bool:
+    """Whether the words plainly ask for a training on this machine, by so many processes."""
+    return _plain(words) is not None
+
+
 def _plain(words: Sequence[str]) -> "Optional[dict[str, int]]":
     """The numbers of `train JOURNAL SEED COUNT [BATCH] --workers N [--timeout SECONDS]`, if the words are that."""
     front = next((at for at, it in enumerate(words) if it.startswith("-")), len(words))
