@@ -138,7 +138,7 @@ class OfInflows(Messages):
 
         clusters = mock.Mock(ClusterError=type("ClusterError", (Exception,), {}), kmeans2=fails)
         words = r"\A\d+ attempts left some of 2 groups empty: take fewer groups or another seed\Z"
-        with mock.patch("hydroplan.inflows.groups._clusters", return_value=clusters):
+        with mock.patch("hydroplan.inflows.resampling._clusters", return_value=clusters):
             self.refused(words, lambda: grouped_years(record_of((1, 2), (3, 2), (5, 2)), Horizon(2), 2, seed=7), InflowError)
 
 
