@@ -41,7 +41,7 @@ _hydroplan_words() {
     "plot "*" residuals") reply="FILE -h --help --output --title" ;;
     "plot "*) reply="bounds water-values storage residuals -h --help" ;;
     "watch "*) reply="FILE -h --help --program --every --until --once --last --scales" ;;
-    "help 0 "* | "-h 0 "* | "--help 0 "*) reply="base train check simulate validate evaluate robust hydro gen study report export join convert explain plot watch --workers --scheduler --timeout prove --unproved help --problem" ;;
+    "help 0 "* | "-h 0 "* | "--help 0 "*) reply="base train check simulate validate evaluate robust hydro gen study report export join --workers --scheduler --timeout --problem help prove --unproved convert explain plot watch" ;;
     "--unproved 0 "*) reply="base train check simulate validate evaluate robust hydro gen" ;;
     esac
 }
@@ -62,7 +62,7 @@ _hydroplan_reply() {
     done
     if [ "${COMP_WORDS[COMP_CWORD - 1]}" = --problem ]; then reply=FILE
     elif [[ ${COMP_WORDS[COMP_CWORD - 1]} =~ ^(--workers|--scheduler|--timeout)$ ]]; then reply=''
-    elif [ -z "$command" ]; then reply="base train check simulate validate evaluate robust hydro gen study report export join convert explain plot watch --workers --scheduler --timeout prove --unproved help --problem -h --help -V --version"
+    elif [ -z "$command" ]; then reply="base train check simulate validate evaluate robust hydro gen study report export join --workers --scheduler --timeout --problem help prove --unproved convert explain plot watch -h --help -V --version"
     else _hydroplan_words "$command" "$place" "$first"
     fi
 }

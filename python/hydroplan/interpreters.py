@@ -10,7 +10,7 @@ import sys
 from importlib.util import find_spec
 from typing import Optional, Sequence
 
-from .repository import TOP
+from .repository import IS_CLONE, TOP
 
 DEBIAN = "/usr/bin/python3"
 LAUNCHER = TOP / "python" / "__main__.py"
@@ -38,7 +38,7 @@ def listed(names: Sequence[str]) -> str:
 
 def other_interpreter(libraries: Sequence[str]) -> Optional[str]:
     """Debian's interpreter, where it is another one, has all of the libraries, and the package stands in a clone, whose launcher it can run."""
-    if sys.executable == DEBIAN or not LAUNCHER.is_file():
+    if sys.executable == DEBIAN or not (IS_CLONE and LAUNCHER.is_file()):
         return None
     try:
         ended = subprocess.run([DEBIAN, "-c", LOOK, *libraries], stdin=subprocess.DEVNULL, capture_output=True, check=False)

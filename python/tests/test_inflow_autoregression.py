@@ -7,8 +7,7 @@ from math import sqrt
 
 from inflow_support import needs_numpy, record_of, two_stations
 from hydroplan.inflows import Horizon, InflowError, drawn_paths, periodic_autoregression, statistics_by_stage, statistics_of
-from hydroplan.inflows.autoregressive import coefficient
-from hydroplan.inflows.shocks import deviation_of, fitted, keeps_deviation
+from hydroplan.inflows.autoregressive import coefficient, deviation_of, fitted, keeps_deviation
 
 # means 5 and 5, variances 5 and 2, covariance within a year 3
 SMALL = record_of([2, 3], [4, 5], [6, 5], [8, 7])

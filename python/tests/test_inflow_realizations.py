@@ -10,7 +10,7 @@ from inflow_support import needs_numpy, needs_scipy, record_of, two_stations
 from hydroplan.inflows import (
     Horizon, InflowError, class_probabilities, grouped_years, independent_years, markov_classes, statistics_by_stage,
 )
-from hydroplan.inflows.rounding import rounded
+from hydroplan.inflows.realizations import rounded
 
 HALF = F(1, 2)
 

@@ -31,8 +31,8 @@ class OfThePackage(Messages):
         errors = io.StringIO()
         with contextlib.redirect_stderr(errors):
             self.assertEqual((main(["nothing"]), main([])), (2, 2))
-        usage = "usage: python3 -m hydroplan study|report|export|join|train|simulate|convert|explain|plot|watch ..\n"
-        self.assertEqual(errors.getvalue(), 2 * usage)
+        hint = "./hydroplan help lists the commands, and ./hydroplan help COMMAND says what one takes and prints\n"
+        self.assertEqual(errors.getvalue(), f"hydroplan: there is no command `nothing`\n{hint}hydroplan: a command is missing\n{hint}")
 
 
 class OfModels(Messages):
@@ -138,7 +138,7 @@ class OfInflows(Messages):
 
         clusters = mock.Mock(ClusterError=type("ClusterError", (Exception,), {}), kmeans2=fails)
         words = r"\A\d+ attempts left some of 2 groups empty: take fewer groups or another seed\Z"
-        with mock.patch("hydroplan.inflows.groups._clusters", return_value=clusters):
+        with mock.patch("hydroplan.inflows.resampling._clusters", return_value=clusters):
             self.refused(words, lambda: grouped_years(record_of((1, 2), (3, 2), (5, 2)), Horizon(2), 2, seed=7), InflowError)
 
 

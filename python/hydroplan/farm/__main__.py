@@ -1,9 +1,15 @@
 """The command `python3 -m hydroplan.farm`."""
+from __future__ import annotations
+
 import sys
 
+TYPE_CHECKING = False
+if TYPE_CHECKING:
+    from typing import Sequence
 
-def main() -> int:
-    """Does what the words of this process ask for; the status.
+
+def main(words: Sequence[str]) -> int:
+    """Does what these words ask for; the status.
 
     Processes begin before most modules are there. What is imported stays to the end, so nothing of it is looked through for what may go.
     """
@@ -12,14 +18,14 @@ def main() -> int:
     gc.disable()
     from .early import BEGUN
 
-    BEGUN.begin(sys.argv[1:])
+    BEGUN.begin(words)
     from .command import main as run
 
     gc.freeze()
     gc.enable()
-    return run()
+    return run(list(words))
 
 
 # a process of a local cluster imports this module under another name
 if __name__ == "__main__":
-    sys.exit(main())
+    sys.exit(main(sys.argv[1:]))

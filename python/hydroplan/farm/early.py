@@ -14,7 +14,10 @@ TYPE_CHECKING = False
 if TYPE_CHECKING:
     from typing import List, Optional, Sequence, Tuple
 
-TOP = os.path.dirname(os.path.dirname(os.path.dirname(os.path.dirname(os.path.realpath(__file__)))))
+PACKAGE = os.path.dirname(os.path.dirname(os.path.realpath(__file__)))
+INSTALLED = os.path.join(PACKAGE, "program")
+# what `repository.TOP` is, without the library that it takes a while to read
+TOP = INSTALLED if os.path.isdir(INSTALLED) else os.path.dirname(os.path.dirname(PACKAGE))
 DOOR, KEPT = os.path.join(TOP, "hydroplan"), os.path.join(TOP, "bin", "hydroplan-x86_64-linux")
 KEPT_WORKER = os.path.join(TOP, "bin", "worker", "hydroplan_worker-x86_64-linux")
 NEWER = [os.path.join(TOP, "crates", it, "out", it) for it in ("hydroplan", "hydroplan_worker")]
@@ -112,6 +115,11 @@ BEGUN = Begun()
 def training(seed: int, count: int) -> bytes:
     """The order to train so many iterations."""
     return b"T" + seed.to_bytes(8, "big") + count.to_bytes(4, "big")
+
+
+def is_plain(words: Sequence[str]) -> bool:
+    """Whether the words plainly ask for a training on this machine, by so many processes."""
+    return _plain(words) is not None
 
 
 def _plain(words: Sequence[str]) -> "Optional[dict[str, int]]":

@@ -6,19 +6,14 @@ which to take. All of it stands outside the proved core.
 """
 from .adapter import model_with_inflows, policy_graph
 from .autoregressive import periodic_autoregression
-from .classes import markov_classes
-from .comparison import Comparison, ComparisonRow, compare
-from .errors import Fault, InflowError, RecordError
-from .groups import grouped_years
-from .moments import class_probabilities, statistics_by_stage
-from .paths import drawn_paths
-from .picture import draw_comparison
-from .reading import read_record
-from .realizations import About, Autoregression, Horizon, Independent, Inflows, Lattice, Realization, ShockStage, StageRealizations
-from .records import Record
-from .statistics import Statistics, statistics_of
-from .writing import write_csv, write_json
-from .years import independent_years
+from .resampling import grouped_years, independent_years, markov_classes
+from .comparison import (
+    Comparison, ComparisonRow, Statistics, class_probabilities, compare, draw_comparison, drawn_paths, statistics_by_stage, statistics_of,
+)
+from .records import Fault, InflowError, Record, RecordError, read_record
+from .realizations import (
+    About, Autoregression, Horizon, Independent, Inflows, Lattice, Realization, ShockStage, StageRealizations, write_csv, write_json,
+)
 
 __all__ = [
     "About", "Autoregression", "Comparison", "ComparisonRow", "Fault", "Horizon", "Independent", "InflowError", "Inflows", "Lattice",

@@ -10,16 +10,10 @@ from hydroplan.errors import HydroplanError
 from ..tools.shown_names import shown_name
 from ..tools.waiting import in_words
 from .autoregressive import periodic_autoregression
-from .classes import markov_classes
-from .comparison import compare
-from .errors import InflowError, RecordError
-from .groups import grouped_years
-from .picture import draw_comparison
-from .reading import LEAVE_OUT, REFUSE, read_record
-from .realizations import Horizon, Inflows
-from .records import UNITS, VOLUME, Record
-from .writing import write_csv, write_json
-from .years import independent_years
+from .resampling import grouped_years, independent_years, markov_classes
+from .comparison import compare, draw_comparison
+from .records import InflowError, LEAVE_OUT, REFUSE, Record, RecordError, UNITS, VOLUME, read_record
+from .realizations import Horizon, Inflows, write_csv, write_json
 
 DESCRIPTION = """Makes realizations for the stages of a model from a record of inflow, prints the record beside them, and writes them to
 files. The record is a CSV file with the columns year, month (or week, or step), and one for each station. docs/use/INFLOWS.md says

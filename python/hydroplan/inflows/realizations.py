@@ -1,16 +1,73 @@
-"""What is made of a record: realizations for each stage, a lattice of classes, or an autoregression with its shocks."""
+"""What is made of a record: realizations for each stage, a lattice of classes, or an autoregression; and how these are written.
+
+Numbers are rounded to whole units of a resolution, so that a weighted total stays as near as it can. For equal weights this is the method
+of the largest remainder (Hamilton 1792). With other weights it is a controlled rounding in one dimension (Cox 1987), found by dynamic
+programming over the total.
+"""
 from __future__ import annotations
 
+import csv
+import json
 from dataclasses import dataclass
 from decimal import Decimal
 from fractions import Fraction
-from typing import Dict, List, Sequence, Tuple, Union
+from itertools import product
+from math import ceil, floor
+from typing import Any, Dict, Iterator, List, Mapping, Sequence, TextIO, Tuple, Union
 
-from hydroplan.exact import Number, exact, text_of
+from ..exact import Number, exact, text_of
+from .records import InflowError, Record
 
-from .errors import InflowError
-from .records import Record
-from .rounding import decimal_of, rounded
+Choice = Tuple[Fraction, Tuple[int, ...]]
+
+
+def rounded(values: Sequence[Fraction], weights: Sequence[int]) -> List[int]:
+    """Each value rounded down or up, with the weighted total as near to that of the values as rounding can bring it.
+
+    Among several ways, the least weighted sum of squared changes counts, then the earlier values. The total is off by at most half
+    of the greatest weight; so with weights of 1 the mean of n values is off by at most 1/(2n). Weights are above 0.
+    """
+    if len(set(weights)) <= 1:
+        return _of_equal_weights(values)
+    parts = [value - floor(value) for value in values]
+    wanted = sum((weight * part for weight, part in zip(weights, parts)), Fraction(0))
+    choices: Dict[int, Choice] = {0: (Fraction(0), ())}
+    for part, weight in zip(parts, weights):
+        choices = _with_one_more(choices, part, weight)
+    total = min(choices, key=lambda it: (abs(it - wanted), choices[it][0], it))
+    return [floor(value) + up for value, up in zip(values, choices[total][1])]
+
+
+def _of_equal_weights(values: Sequence[Fraction]) -> List[int]:
+    """The greatest remainders are rounded up, so many that the total is the nearest whole number."""
+    found = [floor(value) for value in values]
+    ups = ceil(sum(values, Fraction(0)) - sum(found) - Fraction(1, 2))
+    order = sorted(range(len(values)), key=lambda at: (found[at] - values[at], at))
+    for at in order[:ups]:
+        found[at] += 1
+    return found
+
+
+def _with_one_more(choices: Dict[int, Choice], part: Fraction, weight: int) -> Dict[int, Choice]:
+    """The cheapest way to each total, with one more value that is rounded down or, where it is not whole, up."""
+    found: Dict[int, Choice] = {}
+    ways = [(0, part)] if part == 0 else [(0, part), (1, 1 - part)]
+    for (total, (change, ups)), (up, by) in product(choices.items(), ways):
+        entry, key = (change + weight * by * by, (*ups, up)), total + weight * up
+        if key not in found or _rank(entry) < _rank(found[key]):
+            found[key] = entry
+    return found
+
+
+def _rank(choice: Choice) -> Choice:
+    """What decides between two ways to one total: the change, then whether earlier values go up."""
+    return choice[0], tuple(-it for it in choice[1])
+
+
+def decimal_of(units: int, resolution: Decimal) -> Decimal:
+    """So many units of a resolution, as a decimal with its digits."""
+    return Decimal(units) * resolution
+
 
 Matrix = Tuple[Tuple[int, ...], ...]
 MOST_UNITS = 1 << 40
@@ -154,3 +211,78 @@ def in_units(values: Sequence[Fraction], weights: Sequence[int], resolution: Dec
     if most > MOST_UNITS:
         raise InflowError(f"a value is {most} times the resolution {resolution}, which is more than 2^40: take a coarser one")
     return found
+
+
+def write_csv(inflows: Inflows, file: TextIO) -> None:
+    """Writes a row for each realization: stage, step, class, weight, a column for each station, and the record's years.
+
+    In an autoregression the stations' columns are shocks, and coefficients by station follow. A lattice's transitions are in JSON
+    alone.
+    """
+    names = list(inflows.about.stations)
+    head = ["stage", inflows.about.kind, "class", "weight", *names]
+    if isinstance(inflows, Autoregression):
+        head += [f"coefficient {name}" for name in names]
+    rows = csv.writer(file, lineterminator="\n")
+    rows.writerow([*head, "years"])
+    for it in inflows.stages:
+        rows.writerows(_rows(it, names))
+
+
+def _rows(it: Union[StageRealizations, ShockStage, Tuple[StageRealizations, ...]], names: List[str]) -> Iterator[List[object]]:
+    coefficients = [it.coefficients[name] for name in names] if isinstance(it, ShockStage) else []
+    layer = (it.shocks,) if isinstance(it, ShockStage) else (it,) if isinstance(it, StageRealizations) else it
+    for own, found in ((own, found) for own in layer for found in own.realizations):
+        values: List[object] = [found.values[name] for name in names]
+        yield [own.stage, own.step, own.number, found.weight, *values, *coefficients, " ".join(map(str, found.years))]
+
+
+def write_json(inflows: Inflows, file: TextIO) -> None:
+    """Writes what there is as one object: method, source, unit, resolution, stations, notes, and a member `stages`.
+
+    Each stage has its classes, one but in a lattice, with realizations; in a lattice each class has the weights of the next stage's
+    classes. Numbers are decimals at the resolution.
+    """
+    about = inflows.about
+    found: Dict[str, Any] = {
+        "method": about.method, "source": about.source, "unit": about.unit, "resolution": _number(about.resolution),
+        "kind": about.kind, "stations": list(about.stations), "notes": list(about.notes),
+    }
+    if isinstance(inflows, Lattice):
+        found["initial"] = list(inflows.initial)
+    if isinstance(inflows, Autoregression):
+        found["previous"] = _numbers(inflows.previous)
+    found["stages"] = list(_stages(inflows))
+    json.dump(found, file, ensure_ascii=False, indent=1)
+    file.write("\n")
+
+
+def _stages(inflows: Inflows) -> Iterator[Dict[str, Any]]:
+    if isinstance(inflows, Independent):
+        for own in inflows.stages:
+            yield {"stage": own.stage, "step": own.step, "classes": [_class(own)]}
+    elif isinstance(inflows, Lattice):
+        for at, layer in enumerate(inflows.stages):
+            classes = [_class(it) for it in layer]
+            for number, found in enumerate(classes if at < len(inflows.transitions) else ()):
+                found["successors"] = list(inflows.transitions[at][number])
+            yield {"stage": layer[0].stage, "step": layer[0].step, "classes": classes}
+    else:
+        for it in inflows.stages:
+            bounds = {"coefficients": _numbers(it.coefficients), "lower": _numbers(it.lower), "upper": _numbers(it.upper)}
+            yield {"stage": it.shocks.stage, "step": it.shocks.step, **bounds, "classes": [_class(it.shocks)]}
+
+
+def _class(own: StageRealizations) -> Dict[str, Any]:
+    return {"realizations": [
+        {"weight": it.weight, "values": _numbers(it.values), "years": list(it.years)} for it in own.realizations
+    ]}
+
+
+def _numbers(values: Mapping[str, Decimal]) -> Dict[str, Union[int, float]]:
+    return {name: _number(value) for name, value in values.items()}
+
+
+def _number(value: Decimal) -> Union[int, float]:
+    """A decimal as JSON writes it: its shortest text."""
+    return int(value) if value == value.to_integral_value() else float(value)

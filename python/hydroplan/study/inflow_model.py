@@ -12,8 +12,7 @@ from ..exact import exact, is_number
 from ..inflows import (
     Horizon, InflowError, Inflows, Record, grouped_years, independent_years, markov_classes, periodic_autoregression, read_record,
 )
-from ..inflows.reading import LEAVE_OUT, REFUSE
-from ..inflows.records import UNITS, VOLUME
+from ..inflows.records import LEAVE_OUT, REFUSE, UNITS, VOLUME
 from ..plants.errors import suggestion
 from ..plants.system import Outcome
 from .csv_files import CsvFiles

@@ -9,9 +9,10 @@ import re
 from pathlib import Path
 from typing import Iterator
 
+from ..commands import COMMANDS
 from ..repository import TOP
 from . import convert_command, explain_command, plot_command, watch_command
-from .word_table import OF_THE_SCRIPT, SHARED, SHARING, TOOLS, Command, Table, read_table
+from .word_table import Command, Table, read_table
 
 PARSERS = {
     "convert": convert_command.parser, "explain": explain_command.parser, "plot": plot_command.parser, "watch": watch_command.parser,
@@ -65,7 +66,7 @@ complete -o filenames -F _hydroplan hydroplan
 def completion(table: Table) -> str:
     """The text of bin/completion.bash."""
     cases = "".join(f"    {pattern}) reply=\"{reply}\" ;;\n" for pattern, reply in replies(table))
-    parts = {"CASES": cases, "COMMANDS": " ".join([*names(table), *OPTIONS]), "SHARING": "|".join(SHARING), "OPTIONS": " | ".join(SHARING)}
+    parts = {"CASES": cases, "COMMANDS": " ".join([*names(table), *OPTIONS]), "SHARING": "|".join(COMMANDS.sharing), "OPTIONS": " | ".join(COMMANDS.sharing)}
     return re.sub("@([A-Z]+)@", lambda found: parts[found[1]], COMPLETION)
 
 
@@ -82,7 +83,7 @@ def replies(table: Table) -> Iterator[tuple[str, str]]:
     for command in table.commands:
         if command.name in PARSERS:
             yield from _of_a_tool(command.name)
-        elif command.name in TOOLS:
+        elif command.name in COMMANDS.tools:
             yield f'"{command.name} "*', " ".join(["FILE", *_options_told(command)])
         elif command.is_of_the_program():
             yield from _of_the_program(command)
@@ -99,7 +100,7 @@ def _options_told(command: Command) -> list[str]:
 def _of_the_program(command: Command) -> Iterator[tuple[str, str]]:
     for at, word in enumerate([*command.words, ""]):
         told = ["FILE"] if word in FILES else []
-        own = [*(["--problem"] if command.source else []), *(SHARING if command.name in SHARED else [])]
+        own = [*(["--problem"] if command.source else []), *(COMMANDS.sharing if command.name in COMMANDS.shared else [])]
         yield f'"{command.name} {at} "*', " ".join([*told, *own, *(["-h", "--help"] if at == 0 else [])])
 
 
@@ -137,8 +138,8 @@ def _told(commands: list[Command]) -> str:
 def manual(table: Table) -> str:
     """The text of docs/hydroplan.1."""
     own = [it for it in table.commands if it.is_of_the_program()]
-    tools = [it for it in table.commands if it.name in TOOLS]
-    script = [it for it in table.commands if it.name in OF_THE_SCRIPT]
+    tools = [it for it in table.commands if it.name in COMMANDS.tools]
+    script = [it for it in table.commands if it.is_of_the_script()]
     words = (
         (it.name + (f" of {it.command}" if it.command else ""), f"{it.allowed}. {' '.join(it.text)}")
         for it in table.words if not it.name.startswith("status ")

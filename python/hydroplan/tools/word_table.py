@@ -9,13 +9,9 @@ from dataclasses import dataclass
 from pathlib import Path
 from typing import Iterator, Optional
 
-from ..repository import TOP
+from ..commands import COMMANDS, FILE
 
-FILE = TOP / "bin" / "commands.txt"
-TOOLS = ("study", "report", "export", "join", "convert", "explain", "plot", "watch")
-SHARING = ("--workers", "--scheduler", "--timeout")
-SHARED = ("train", "simulate")
-OF_THE_SCRIPT = ("prove", "--unproved", "help", "--problem", *SHARING)
+KINDS = ("tool ", "shared ", "script =", "options =")
 
 
 @dataclass(frozen=True)
@@ -36,7 +32,11 @@ class Command:
 
     def is_of_the_program(self) -> bool:
         """Whether the proved program reads it, and neither the script nor a tool does."""
-        return self.name not in (*TOOLS, *OF_THE_SCRIPT)
+        return self.name not in COMMANDS.tools and not self.is_of_the_script()
+
+    def is_of_the_script(self) -> bool:
+        """Whether it is a word or an option of the script alone."""
+        return self.name in COMMANDS.script or self.name in COMMANDS.options
 
 
 @dataclass(frozen=True)
@@ -93,4 +93,6 @@ def read_table(path: Path = FILE) -> Table:
 def _entries(text: str) -> Iterator[tuple[str, tuple[str, ...]]]:
     for entry in re.split(r"\n(?=[^\s])", text.strip()):
         head, *rest = entry.strip().split("\n")
+        if head.startswith(KINDS):
+            continue
         yield head, tuple(line.strip() for line in rest)

@@ -1,6 +1,6 @@
 """What is wrong with a command line: the word, what it may be, and the nearest command; by the table of words.
 
-Outside the proved core. The script `hydroplan` runs it where it finds that words are of no form.
+Outside the proved core. `script_words` finds that words are of no form.
 """
 from __future__ import annotations
 
@@ -8,14 +8,13 @@ import os
 import sys
 from typing import Optional, Sequence
 
+from ..commands import COMMANDS
 from .likeness import nearest
+from .script_words import OPTION, Given, without_options
 from .shown_names import shown_name
-from .word_table import OF_THE_SCRIPT, SHARED, SHARING, Command, Table, read_table
+from .word_table import Command, Table, read_table
 
 USAGE = 2
-OPTION = "--problem"
-# the options of the script, each with the word behind it
-OPTIONS = {OPTION: "FILE", "--workers": "WORKERS", "--scheduler": "ADDRESS", "--timeout": "SECONDS"}
 
 
 def main(*words: str) -> int:
@@ -28,54 +27,48 @@ def main(*words: str) -> int:
 def lines_on(words: Sequence[str], table: Table) -> list[str]:
     """The lines on a wrong command line: what is wrong first, and then what the command takes, or the one that is nearest."""
     rest, given = without_options(words)
-    fault = _wrong_options(given)
     if rest and rest[0] in ("help", "-h", "--help") and len(rest) > 1:
         return [f"hydroplan: {_wrong_help(rest, table)}", HINT]
     command = table.command(rest[0]) if rest else None
-    if command is None or command.name in OF_THE_SCRIPT:
+    if command is None or command.is_of_the_script():
+        fault = _wrong_options(given)
         like = None if command is not None or not rest else nearest(rest[0], tuple(it.name for it in table.commands))
         return [f"hydroplan: {fault or _no_command(rest, table, like)}", *_told(table.command(like) if like else None), HINT]
-    fault = fault or _wrong_source(given, command)
-    if command.is_of_the_program():
-        is_shared = any(name in SHARING for name, _ in given)
-        fault = fault or _unknown_option(rest[1:]) or wrong_word(command, rest[1:], table, is_shared)
-    fault = fault or _wrong_sharing(given, command, table) or "nothing is wrong with these words"
+    fault = _fault_of_command(command, rest[1:], given, table) or "nothing is wrong with these words"
     return [f"hydroplan: {command.name}: {fault}", *_told(command), f"./hydroplan help {command.name} says what it takes and prints"]
+
+
+def fault_of(words: Sequence[str], table: Table) -> Optional[str]:
+    """What is wrong with the words of a command of the program or of a tool; none where nothing is."""
+    rest, given = without_options(words)
+    command = table.command(rest[0]) if rest else None
+    return "no command" if command is None else _fault_of_command(command, rest[1:], given, table)
+
+
+def _fault_of_command(command: Command, behind: Sequence[str], given: Given, table: Table) -> Optional[str]:
+    fault = _wrong_options(given) or _wrong_source(given, command)
+    if command.is_of_the_program():
+        is_shared = any(name in COMMANDS.sharing for name, _ in given)
+        fault = fault or _unknown_option(behind) or wrong_word(command, behind, table, is_shared)
+    return fault or _wrong_sharing(given, command, table)
 
 
 def _told(command: Optional[Command]) -> list[str]:
     """The form of a command of the program or of a tool, and where its problem comes from."""
-    if command is None or command.name in OF_THE_SCRIPT:
+    if command is None or command.is_of_the_script():
         return []
     usage = f"usage: ./hydroplan {command.form()}"
     return [usage, f"{command.source} comes on standard input (< FILE), or as a file by {OPTION} FILE"] if command.source else [usage]
 
 
 HINT = "./hydroplan help lists the commands, and ./hydroplan help COMMAND says what one takes and prints"
-Given = list[tuple[str, Optional[str]]]
-
-
-def without_options(words: Sequence[str]) -> tuple[list[str], Given]:
-    """The words without the options of the script, and these with the words behind them, none where such a word is missing."""
-    rest: list[str] = []
-    found: Given = []
-    coming = iter(words)
-    for word in coming:
-        name, equals, value = word.partition("=")
-        if name not in OPTIONS:
-            rest.append(word)
-        elif equals:
-            found.append((name, value))
-        else:
-            found.append((name, next(coming, None)))
-    return rest, found
 
 
 def _wrong_options(given: Given) -> Optional[str]:
     names = [name for name, _ in given]
     for name, value in given:
         if value is None:
-            return f"{name} lacks its {OPTIONS[name]}"
+            return f"{name} lacks its {COMMANDS.options[name]}"
         if names.count(name) > 1:
             return f"{name} stands there {names.count(name)} times"
     return None
@@ -92,20 +85,20 @@ def _unknown_option(rest: Sequence[str]) -> Optional[str]:
     if unknown is None:
         return None
     name = unknown.partition("=")[0]
-    like = nearest(name, tuple(OPTIONS))
+    like = nearest(name, tuple(COMMANDS.options))
     return f"there is no option `{name}`" + ("" if like is None else f"; `{like}` is the nearest")
 
 
 def _wrong_sharing(given: Given, command: Command, table: Table) -> Optional[str]:
     """What is wrong with `--workers` and `--scheduler` behind a command."""
-    sharing = {name: value for name, value in given if name in SHARING and value is not None}
-    if sharing and command.name not in SHARED:
-        return f"{next(iter(sharing))} stands behind {' and '.join(f'`{it}`' for it in SHARED)} alone"
+    sharing = {name: value for name, value in given if name in COMMANDS.sharing and value is not None}
+    if sharing and command.name not in COMMANDS.shared:
+        return f"{next(iter(sharing))} stands behind {' and '.join(f'`{it}`' for it in COMMANDS.shared)} alone"
     if set(sharing) == {"--timeout"}:
         return "--timeout stands behind --workers or --scheduler"
     if sharing.get("--scheduler") == "":
         return "--scheduler has an empty word in place of its ADDRESS"
-    numbers = (_fault_of(OPTIONS[name], value, command.name, table) for name, value in sharing.items() if name != "--scheduler")
+    numbers = (_fault_of_word(COMMANDS.options[name], value, command.name, table) for name, value in sharing.items() if name != "--scheduler")
     return next((it for it in numbers if it is not None), None)
 
 
@@ -131,7 +124,7 @@ def wrong_word(command: Command, given: Sequence[str], table: Table, is_shared: 
     for at, name in enumerate(command.words):
         if at >= len(given):
             return f"{name} is missing" if not name.startswith("[") else None
-        fault = _fault_of(name.strip("[]"), given[at], behind, table)
+        fault = _fault_of_word(name.strip("[]"), given[at], behind, table)
         if fault is not None:
             return fault
     if len(given) > len(command.words):
@@ -146,7 +139,7 @@ def _too_many(word: str, command: Command) -> str:
     return fault
 
 
-def _fault_of(name: str, word: str, command: str, table: Table) -> Optional[str]:
+def _fault_of_word(name: str, word: str, command: str, table: Table) -> Optional[str]:
     allowed = table.word(name, command)
     limits = None if allowed is None else allowed.range()
     if limits is None:
