@@ -9,15 +9,15 @@ from wrong_edits.verdicts import verdict_on_bodies, verdict_of
 TOGETHER = """\
 ./proofs/dual_simplex/exchange/Answers.antt:8:188: error: `returns-clause-exchanged`: as printed, the two types differ
 note: src/entering.rt:93:1: it is not proved that what the function ensures holds when it returns
-fn hp_simplex::entering::is_better: no proof: expected answers in ./proofs/entering/is_better/Answers.antt; `search` did not prove `returns`
-fn hp_simplex::entering::chosen: no proof: it calls `hp_simplex::entering::is_better`, which is not proved
-fn hp_simplex::entering::is_fixed: proved
-fn hp_simplex::dual_simplex::exchange: not proved; it calls `hp_simplex::table::Table::pivot`, which is not proved
+fn lp_table::entering::is_better: no proof: expected answers in ./proofs/entering/is_better/Answers.antt; `search` did not prove `returns`
+fn lp_table::entering::chosen: no proof: it calls `lp_table::entering::is_better`, which is not proved
+fn lp_table::entering::is_fixed: proved
+fn lp_table::dual_simplex::exchange: not proved; it calls `lp_table::table::Table::pivot`, which is not proved
 only=5 proved=1
 """
 GONE = """\
 ./proofs/table/pivot_lists/Answers.antt:36:160: error: `returns-clause`: record `After-cells8` has no field `move_row`
-fn hp_simplex::table::pivot_lists: not proved
+fn lp_table::table::pivot_lists: not proved
 only=1 proved=0
 """
 UNPARSED = """\
@@ -35,7 +35,7 @@ class Alone(unittest.TestCase):
         self.assertTrue(self.verdict(1, TOGETHER.replace("only=5 proved=1", "logic=not-proved")).refused)
 
     def test_a_proof_refuses_no_wrong_edit(self):
-        verdict = self.verdict(0, "fn hp_simplex::table::pivot_lists: proved\nonly=1 proved=1\n")
+        verdict = self.verdict(0, "fn lp_table::table::pivot_lists: proved\nonly=1 proved=1\n")
         self.assertFalse(verdict.refused)
         self.assertIn("NOT REFUSED", verdict.why)
 
@@ -72,7 +72,7 @@ class OfBodies(unittest.TestCase):
 
     def verdict(self, *functions, said=TOGETHER, status=1):
         texts = {"src/entering.rt": "fn is_better() {\n    body\n}\n"}
-        return verdict_on_bodies(status, said, texts, "hp_simplex", list(functions), self.EDITED)
+        return verdict_on_bodies(status, said, texts, "lp_table", list(functions), self.EDITED)
 
     def refused(self, *functions, **how):
         return self.verdict(*functions, **how).refused
@@ -85,7 +85,7 @@ class OfBodies(unittest.TestCase):
     def test_an_open_goal_is_the_reason_before_a_name_that_is_gone(self):
         gone = "proofs/entering/is_better/Answers.antt:8:1: error: `returns`: `Goals` has no field `returns`\n"
         goal = "note: src/entering.rt:2:5: it is not proved that what the function ensures holds\n"
-        end = "fn hp_simplex::entering::is_better: not proved\nonly=1 proved=0\n"
+        end = "fn lp_table::entering::is_better: not proved\nonly=1 proved=0\n"
         self.assertIn("only because a proof file", self.verdict("entering::is_better", said=gone + end).why)
         self.assertIn("note: src/entering.rt:2:5", self.verdict("entering::is_better", said=gone + goal + end).why)
 
@@ -96,12 +96,12 @@ class OfBodies(unittest.TestCase):
         self.assertIn("NOT REFUSED", self.verdict("entering::is_fixed").why)
 
     def test_nothing_is_believed_where_an_untouched_function_fails(self):
-        line = "fn hp_simplex::bounds::low_of: no proof: `search` did not prove `returns`"
-        said = TOGETHER.replace("fn hp_simplex::entering::is_fixed: proved", line)
+        line = "fn lp_table::bounds::low_of: no proof: `search` did not prove `returns`"
+        said = TOGETHER.replace("fn lp_table::entering::is_fixed: proved", line)
         self.assertIn("low_of is not proved, which it does not change", self.verdict("entering::is_better", said=said).why)
 
     def test_a_closure_stands_for_its_function(self):
-        said = "fn hp_simplex::entering::fn::is_fixed::all+FnMut::call_mut: not proved\nonly=1 proved=0\n"
+        said = "fn lp_table::entering::fn::is_fixed::all+FnMut::call_mut: not proved\nonly=1 proved=0\n"
         self.assertTrue(self.refused("entering::is_fixed", said=said))
 
     def test_an_answer_over_what_was_not_admitted_does_not_tell(self):
