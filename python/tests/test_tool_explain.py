@@ -13,7 +13,7 @@ from hydroplan.tools.misspellings import warnings
 from hydroplan.tools.places import descend, locate, read_refusal
 
 TWO = (EXAMPLES / "two_reservoirs.json").read_text(encoding="utf-8")
-WORKED = REPOSITORY / "crates" / "golden_rows" / "data"
+WORKED = REPOSITORY / "crates" / "test_golden" / "data"
 
 
 def said(text, line):

@@ -22,7 +22,7 @@ class Table(unittest.TestCase):
         self.assertEqual(sorted(own), sorted(forms))
 
     def test_has_the_ranges_of_the_crates(self):
-        limits = (REPOSITORY / "crates/hp_parts/src/limits.rt").read_text(encoding="utf-8")
+        limits = (REPOSITORY / "crates/problem/src/limits.rt").read_text(encoding="utf-8")
         most = {name: int(number.replace("_", "")) for name, number in re.findall(r"pub const (MOST_\w+): \w+ = ([\d_]+);", limits)}
         rows = {
             ("COUNT", "train"): (0, most["MOST_ITERATIONS"]), ("COUNT", "simulate"): (0, most["MOST_SIMULATIONS"]), ("SEED", "gen"): (0, 2**64 - 1),

@@ -93,7 +93,7 @@ def rounding(problem, training):
 
 class Problem(StudyFolder):
     def test_the_limit_is_that_of_the_definition(self):
-        text = (TOP / "crates" / "hp_warm_answers" / "specs" / "Finish.antt").read_text(encoding="utf-8")
+        text = (TOP / "crates" / "lp_price" / "specs" / "Finish.antt").read_text(encoding="utf-8")
         self.assertIn(f"exceeds the least one by more than 2^-{TRUSTED} of both and 2^-16\n", text)
         self.assertEqual(Fraction(LEAN.gap, 1 << LEAN.cells + LEAN.points), Fraction(1, 2**16))
         self.assertEqual(Fraction(LEAN.least_pivot, 1 << LEAN.cells), Fraction(1, 2**16))

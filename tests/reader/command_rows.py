@@ -1,7 +1,7 @@
-"""Rows of command lines, of tests/program and crates/golden_rows, and what the second reading gives in the program's place.
+"""Rows of command lines, of tests/program and crates/test_golden, and what the second reading gives in the program's place.
 
 Only commands that solve, follow a policy or read a journal are read, over problems and journals that are not refused. Rows of
-crates/golden_measure that measure training are read too.
+crates/test_measure that measure training are read too.
 """
 from __future__ import annotations
 
@@ -19,7 +19,7 @@ from program_files import GOLDEN
 
 TOP = Path(__file__).resolve().parents[2]
 COMMANDS = GOLDEN / "data"
-MEASURE = TOP / "crates" / "golden_measure"
+MEASURE = TOP / "crates" / "test_measure"
 PROGRAM = TOP / "tests" / "program"
 
 ENDS = ("hydroplan 1", "hydroplan: no stage solution: ", "hydroplan: range: ")
@@ -67,7 +67,7 @@ def row_of_program(line: str) -> Optional[CommandRow]:
 
 
 def row_of_commands(line: str) -> Optional[CommandRow]:
-    """A row of crates/golden_rows in which the program's own solver goes through a command."""
+    """A row of crates/test_golden in which the program's own solver goes through a command."""
     kind, name, problem, *rest = line.split()
     if kind not in ("stops", "faults"):
         return None
@@ -128,7 +128,7 @@ def expected(row: CommandRow) -> Tuple[str, bytes]:
 
 
 def measure_rows() -> List[str]:
-    """The lines of crates/golden_measure by which training with the program's own solver is measured."""
+    """The lines of crates/test_measure by which training with the program's own solver is measured."""
     lines = (MEASURE / "data" / "rows.txt").read_text(encoding="utf-8").splitlines()
     return [line for line in lines if line.startswith("measure ") and line.split()[3].startswith("warm-")]
 

@@ -1,4 +1,4 @@
-"""Files of programs in the form of crates/golden_rows/data, whose README says what they hold, and answers as that crate prints them."""
+"""Files of programs in the form of crates/test_golden/data, whose README says what they hold, and answers as that crate prints them."""
 from __future__ import annotations
 
 from pathlib import Path
@@ -8,7 +8,7 @@ from second_reading.ladder import Trace, answer_of, begin, start
 from second_reading.program import UNIT, Answer, Program
 from reader_rows import program_of
 
-GOLDEN = Path(__file__).resolve().parents[2] / "crates" / "golden_rows"
+GOLDEN = Path(__file__).resolve().parents[2] / "crates" / "test_golden"
 
 REFUSED = ("empty-box", "another-cut")
 """The rows whose programs no solver takes."""

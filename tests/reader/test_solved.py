@@ -1,4 +1,4 @@
-"""Each file of programs in crates/golden_rows that the program's own solver is to solve: what is stored there is the second reading's.
+"""Each file of programs in crates/test_golden that the program's own solver is to solve: what is stored there is the second reading's.
 
 The second reading shares no code with the program, which is held to the same stored lines by its gate.
 """

@@ -63,7 +63,7 @@ class Alone(unittest.TestCase):
         self.assertIn("only because a proof file names what the edit took away", verdict.why)
 
     def test_libraries_of_different_builds_are_a_bad_edit(self):
-        said = "module `Rattle-hp_num-Lib` is another one. Run the lower steps again\nlogic=not-proved\n"
+        said = "module `Rattle-base_num-Lib` is another one. Run the lower steps again\nlogic=not-proved\n"
         self.assertFalse(self.verdict(1, said).refused)
 
 

@@ -1,7 +1,7 @@
 //! Plans hydropower reservoirs and thermal plants.
 #![tactic(auto)]
 
-use hp_run::start;
+use run_program::start;
 use std::process::ExitCode;
 
 fn main(rt: HostRuntime) -> ExitCode {

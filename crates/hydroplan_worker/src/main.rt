@@ -1,7 +1,7 @@
 //! Trains behind records that others made.
 #![tactic(auto)]
 
-use hp_worker::start;
+use run_worker::start;
 use std::process::ExitCode;
 
 fn main(rt: HostRuntime) -> ExitCode {

@@ -1,0 +1,12 @@
+pub mod Causes
+pub mod Changes
+pub mod Counted
+pub mod Crashes
+pub mod Disks
+pub mod Faultless
+pub mod Histories
+pub mod InMemory
+pub mod MemoryDisks
+pub mod Readings
+pub mod Since
+pub mod FileEnd

@@ -1,0 +1,9 @@
+pub mod Floors
+pub mod Fronts
+pub mod Order
+pub mod Ring
+pub mod Sums
+pub mod Tests
+pub mod Each
+pub mod Flat
+pub mod Numbers

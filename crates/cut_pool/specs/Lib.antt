@@ -1,0 +1,9 @@
+pub mod Pooled
+pub mod Reaches
+pub mod BoxMaxima
+pub mod SlopeRanges
+pub mod FlatCuts
+pub mod CoarseLists
+pub mod Active
+pub mod NodeLists
+pub mod AtNodes

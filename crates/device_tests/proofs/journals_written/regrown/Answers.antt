@@ -1,5 +1,0 @@
-use Rattle.device_tests.proofs.WorkedBody.{two_bytes}
-use Rattle.device_tests.proofs.journals_written.regrown.Goals as goal
-
-pub append-requires-clause-body : goal.append-requires-clause-body
-append-requires-clause-body c = two_bytes

@@ -1,5 +1,0 @@
-use Rattle.hp_cut.specs.AtNodes.{PoolsFit}
-use Rattle.golden_measure.proofs.iterations.steps.Given as goal
-
-abbrev pub invariant-loop-done : goal.invariant-loop-done
-invariant-loop-done g l = PoolsFit l.planner.problem.now l.pools.lists

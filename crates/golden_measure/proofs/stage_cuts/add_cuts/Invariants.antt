@@ -1,5 +1,0 @@
-use Rattle.hp_cut.specs.AtNodes.{PoolsFit}
-use Rattle.golden_measure.proofs.stage_cuts.add_cuts.Given as goal
-
-abbrev pub invariant-loop-turn : goal.invariant-loop-turn
-invariant-loop-turn l = PoolsFit l.problem l.pools.lists

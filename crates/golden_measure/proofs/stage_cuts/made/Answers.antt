@@ -1,5 +1,0 @@
-use Rattle.hp_dual.proofs.Fitting.{fit_for-fit}
-use Rattle.golden_measure.proofs.stage_cuts.made.Goals as goal
-
-pub accept_into-requires-clause-fit : goal.accept_into-requires-clause-fit
-accept_into-requires-clause-fit c = fit_for-fit c.args.problem.now c.args.pools.now.lists c.args.node c.parts.ensures.validated c.requires.known c.requires.fit

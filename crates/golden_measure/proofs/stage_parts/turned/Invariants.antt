@@ -1,5 +1,0 @@
-use Rattle.hp_lp.specs.Nodes.{IsStageAt}
-use Rattle.golden_measure.proofs.stage_parts.turned.Given as goal
-
-abbrev pub invariant-loop-turn : goal.invariant-loop-turn
-invariant-loop-turn l = IsStageAt l.problem 0 l.lp

@@ -1,6 +1,0 @@
-use Rattle.hp_solver.specs.declared.programs.Program.{Program}
-use Rattle.hp_solver.specs.Proper.{IsProper, IsLike}
-use Rattle.golden_rows.proofs.chain.push_answers.Given as goal
-
-abbrev pub invariant-loop-lp : goal.invariant-loop-lp
-invariant-loop-lp g l = IsProper l.last × ((other : Program) → IsLike l.last other → g.V.Solver.fits l.solver l.chain other)

@@ -1,6 +1,0 @@
-use Rattle.std.proofs.Common.{◌≡◌, replicate}
-use Rattle.hp_backward.specs.Certifying.{blank}
-use Rattle.hp_backward.proofs.places.blanks.Given as goal
-
-abbrev pub invariant-loop : goal.invariant-loop
-invariant-loop l = l.list.items ≡ replicate l.counter blank

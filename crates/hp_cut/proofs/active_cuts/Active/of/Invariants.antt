@@ -1,5 +1,0 @@
-use Rattle.hp_cut.specs.Active.{AreFirst}
-use Rattle.hp_cut.proofs.active_cuts.Active.of.Given as goal
-
-abbrev pub invariant-loop-place : goal.invariant-loop-place
-invariant-loop-place l = AreFirst l.cuts l.place l.found

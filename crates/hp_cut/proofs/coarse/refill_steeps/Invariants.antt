@@ -1,6 +1,0 @@
-use Rattle.std.proofs.Common.{take}
-use Rattle.hp_solver.specs.Coarse.{AreSteeps}
-use Rattle.hp_cut.proofs.coarse.refill_steeps.Given as goal
-
-abbrev pub invariant-loop-k : goal.invariant-loop-k
-invariant-loop-k l = AreSteeps l.shift (take l.kept l.cuts) l.state (take l.kept l.initial.steeps.items) → AreSteeps l.shift (take l.k l.cuts) l.state l.steeps.items

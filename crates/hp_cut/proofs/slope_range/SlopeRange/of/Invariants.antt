@@ -1,5 +1,0 @@
-use Rattle.hp_cut.specs.SlopeRanges.{AreEndsOfFirst}
-use Rattle.hp_cut.proofs.slope_range.SlopeRange.of.Given as goal
-
-abbrev pub invariant-loop-place : goal.invariant-loop-place
-invariant-loop-place l = AreEndsOfFirst l.cuts l.place l.found

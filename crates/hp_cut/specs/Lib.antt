@@ -1,9 +1,0 @@
-pub mod Pooled
-pub mod Reaches
-pub mod BoxMaxima
-pub mod SlopeRanges
-pub mod FlatCuts
-pub mod CoarseLists
-pub mod Active
-pub mod Kept
-pub mod AtNodes

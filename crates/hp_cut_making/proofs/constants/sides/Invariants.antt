@@ -1,9 +1,0 @@
-use Rattle.std.proofs.Common.{ℤ, ◌-ℤ◌, ◌*ℤ◌, zip, take}
-use Rattle.hp_num.specs.Sums.{total, entry, at_terms}
-use Rattle.hp_parts.specs.declared.parts.Row.{Row}
-use Rattle.hp_theory.specs.CutOf.{side}
-use Rattle.hp_cut_making.specs.Congruent.{Congruent}
-use Rattle.hp_cut_making.proofs.constants.sides.Given as goal
-
-abbrev pub invariant-loop-i : goal.invariant-loop-i
-invariant-loop-i l = Congruent l.sum (total (λ (q : Row × ℤ). q.1 *ℤ (side q.0 q.1 -ℤ at_terms q.0.randoms (entry l.values))) (take l.i (zip l.rows l.multipliers)))

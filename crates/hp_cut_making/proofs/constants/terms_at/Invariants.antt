@@ -1,7 +1,0 @@
-use Rattle.std.proofs.Common.{take}
-use Rattle.hp_num.specs.Sums.{entry, at_terms}
-use Rattle.hp_cut_making.specs.Congruent.{Congruent}
-use Rattle.hp_cut_making.proofs.constants.terms_at.Given as goal
-
-abbrev pub invariant-loop-variable : goal.invariant-loop-variable
-invariant-loop-variable l = Congruent l.sum (at_terms (take l.variable-index l.terms) (entry l.values))

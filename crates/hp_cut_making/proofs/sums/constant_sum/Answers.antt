@@ -1,8 +1,0 @@
-use Rattle.hp_cut_making.proofs.Tables.{zeros}
-use Rattle.hp_cut_making.proofs.sums.constant_sum.Goals as goal
-
-pub constant_sum_by-requires-clause-zeros : goal.constant_sum_by-requires-clause-zeros
-constant_sum_by-requires-clause-zeros c = zeros 32
-
-pub constant_sum_by-requires-else-len-le-FEW_DECISIONS-clause-zeros : goal.constant_sum_by-requires-else-len-le-FEW_DECISIONS-clause-zeros
-constant_sum_by-requires-else-len-le-FEW_DECISIONS-clause-zeros c = zeros 200

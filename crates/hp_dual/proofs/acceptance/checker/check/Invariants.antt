@@ -1,4 +1,0 @@
-use Rattle.hp_dual.proofs.acceptance.checker.check.Given as goal
-
-abbrev pub ghost-check_right : goal.ghost-check_right
-ghost-check_right g a = g.n

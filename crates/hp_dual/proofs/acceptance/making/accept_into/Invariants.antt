@@ -1,8 +1,0 @@
-use Rattle.hp_theory.specs.Problem.{with_weights}
-use Rattle.hp_theory.specs.View.{node_of}
-use Rattle.hp_dual.proofs.acceptance.making.accept_into.Given as goal
-
-abbrev pub ghost-accept_at : goal.ghost-accept_at
-ghost-accept_at a =
-    let h = a.here.now in
-    with_weights h.weights.now (node_of h.node.now h.subproblem.now h.low.now h.high.now)

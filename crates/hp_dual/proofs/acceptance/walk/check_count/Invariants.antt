@@ -1,4 +1,0 @@
-use Rattle.hp_dual.proofs.acceptance.walk.check_count.Given as goal
-
-abbrev pub ghost-check_shapes : goal.ghost-check_shapes
-ghost-check_shapes g a = g.n

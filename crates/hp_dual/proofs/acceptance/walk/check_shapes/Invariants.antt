@@ -1,6 +1,0 @@
-use Rattle.std.proofs.Common.{◌≡◌, drop}
-use Rattle.hp_cut_making.specs.Acceptance.{first_unshaped}
-use Rattle.hp_dual.proofs.acceptance.walk.check_shapes.Given as goal
-
-abbrev pub invariant-loop-r : goal.invariant-loop-r
-invariant-loop-r g l = first_unshaped g.n l.r (drop l.r l.list) ≡ first_unshaped g.n 0 l.list

@@ -1,6 +1,0 @@
-use Rattle.std.proofs.Common.{◌≡◌, ◌≤◌, ◌+◌, ◌*◌, ◌^◌, drop}
-use Rattle.hp_theory.specs.Certificates.{multipliers}
-use Rattle.hp_dual.proofs.acceptance.walk.multipliers.Given as goal
-
-abbrev pub invariant-loop-pair : goal.invariant-loop-pair
-invariant-loop-pair l = (l.sum + multipliers (drop l.pair-index l.pairs) ≡ multipliers l.pairs) × (l.sum ≤ l.pair-index * 2 ^ 64)

@@ -1,6 +1,0 @@
-use Rattle.std.proofs.Common.{drop}
-use Rattle.hp_dual.proofs.Standing.{Standing}
-use Rattle.hp_dual.proofs.base_pools.base.Given as goal
-
-abbrev pub invariant-loop-node : goal.invariant-loop-node
-invariant-loop-node l = Standing l.problem (drop l.node-index l.order) l.pools.lists

@@ -1,9 +1,0 @@
-use Rattle.std.proofs.Common.{◌≡◌, length}
-use Rattle.hp_dual.proofs.Sharing.{Each}
-use Rattle.hp_dual.proofs.reweighting.shares.shares_by.Given as goal
-
-abbrev pub invariant-loop-r : goal.invariant-loop-r
-invariant-loop-r l = record {
-  count : length l.found ≡ l.r;
-  each : Each l.here.pools.now.lists l.here.node.now l.here.subproblem.now l.here.low.now l.here.high.now l.list l.found;
-}

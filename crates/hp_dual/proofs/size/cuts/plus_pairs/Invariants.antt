@@ -1,7 +1,0 @@
-use Rattle.std.proofs.Common.{◌≡◌, ◌+◌, take}
-use Rattle.std.specs.List.{sum_by}
-use Rattle.hp_cut_making.specs.SizeByTerms.{pair_amount}
-use Rattle.hp_dual.proofs.size.cuts.plus_pairs.Given as goal
-
-abbrev pub invariant-loop-pair : goal.invariant-loop-pair
-invariant-loop-pair l = l.sum.total ≡ l.fn.size.total + sum_by (pair_amount l.decisions l.outs l.cuts) (take l.pair-index l.pairs)

@@ -1,7 +1,0 @@
-use Rattle.std.proofs.Common.{not, string_bytes, ap, ◌∙◌}
-use Rattle.std.specs.Str.{bytes_eq}
-use Rattle.hp_fields.proofs.Named.{list_any-map}
-use Rattle.hp_fields.proofs.names.insert.Goals as goal
-
-pub returns-clause-added : goal.returns-clause-added
-returns-clause-added c = c.in-Ok.ensures.added ∙ ap not (list_any-map string_bytes (bytes_eq (string_bytes c.args.text)) c.args.set.now.keys)

@@ -1,5 +1,0 @@
-use Rattle.hp_outside.proofs.Unobservable.{cut_nothing}
-use Rattle.hp_file_disk.proofs.file_like.StdFileFileLike.resize.Goals as goal
-
-pub returns-clause-crash : goal.returns-clause-crash
-returns-clause-crash g c = λ left now. (left, tt, cut_nothing _ left)

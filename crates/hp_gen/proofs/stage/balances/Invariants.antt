@@ -1,8 +1,0 @@
-use Rattle.std.proofs.Common.{map, ◌≡◌}
-use Rattle.serde_json.specs.View.{view}
-use Rattle.hp_paths.specs.Paths.{numbers}
-use Rattle.hp_gen.specs.Stage.{balance}
-use Rattle.hp_gen.proofs.stage.balances.Given as goal
-
-abbrev pub invariant-loop-reservoir : goal.invariant-loop-reservoir
-invariant-loop-reservoir l = map view l.list.items ≡ map balance (numbers l.reservoir)

@@ -1,9 +1,0 @@
-use Rattle.std.proofs.Common.{map, ◌≡◌}
-use Rattle.serde_json.specs.Data.{string}
-use Rattle.serde_json.specs.View.{view}
-use Rattle.hp_paths.specs.Paths.{numbers}
-use Rattle.hp_gen.specs.Stage.{inflow_name}
-use Rattle.hp_gen.proofs.stage.random_variables.Given as goal
-
-abbrev pub invariant-loop-reservoir : goal.invariant-loop-reservoir
-invariant-loop-reservoir l = map view l.list.items ≡ map (λ j. string (inflow_name j)) (numbers l.reservoir)

@@ -1,8 +1,0 @@
-use Rattle.std.proofs.Common.{◌≡◌, map, unwrap_or}
-use Rattle.hp_num.specs.Sums.{entry}
-use Rattle.hp_paths.specs.Paths.{numbers}
-use Rattle.hp_graph.specs.Hull.{given, hull}
-use Rattle.hp_graph.proofs.boxes.side_of.Given as goal
-
-abbrev pub invariant-loop-state : goal.invariant-loop-state
-invariant-loop-state l = l.found ≡ map (λ s. unwrap_or (given l.side l.parts l.node s) (entry (hull l.side l.parts l.node) s)) (numbers l.state)

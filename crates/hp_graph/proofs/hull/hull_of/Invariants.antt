@@ -1,7 +1,0 @@
-use Rattle.std.proofs.Common.{◌≡◌, map}
-use Rattle.hp_paths.specs.Paths.{numbers}
-use Rattle.hp_graph.specs.Hull.{outermost, incoming}
-use Rattle.hp_graph.proofs.hull.hull_of.Given as goal
-
-abbrev pub invariant-loop-state : goal.invariant-loop-state
-invariant-loop-state l = l.found ≡ map (λ s. outermost l.side (incoming l.side l.parts l.node s)) (numbers l.state)

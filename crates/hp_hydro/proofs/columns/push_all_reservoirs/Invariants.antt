@@ -1,9 +1,0 @@
-use Rattle.std.proofs.Common.{map, ◌++◌, ◌≡◌}
-use Rattle.std.specs.List.{flat_map}
-use Rattle.hp_paths.specs.Paths.{numbers}
-use Rattle.hp_hydro.specs.Columns as columns
-use Rattle.hp_hydro.specs.Seen.{seen_column}
-use Rattle.hp_hydro.proofs.columns.push_all_reservoirs.Given as goal
-
-abbrev pub invariant-loop-j : goal.invariant-loop-j
-invariant-loop-j l = map seen_column l.list.items ≡ map seen_column l.initial.list.items ++ flat_map (columns.reservoir_columns l.plants) (numbers l.j)

@@ -1,8 +1,0 @@
-use Rattle.std.proofs.Common.{◌≡◌}
-use Rattle.serde_json.specs.View.{members_view}
-use Rattle.hp_hydro.specs.Nodes as nodes
-use Rattle.hp_forms.specs.Listed.{members_from}
-use Rattle.hp_hydro.proofs.nodes.nodes.Given as goal
-
-abbrev pub invariant-loop-m : goal.invariant-loop-m
-invariant-loop-m l = members_view l.map.entries ≡ members_from nodes.node_name (nodes.node l.plants) 0 l.m

@@ -1,8 +1,0 @@
-use Rattle.std.proofs.Common.{map, ◌++◌, ◌≡◌}
-use Rattle.serde_json.specs.View.{view}
-use Rattle.hp_paths.specs.Paths.{numbers}
-use Rattle.hp_hydro.specs.Stage as stage
-use Rattle.hp_hydro.proofs.stage.push_water_rows.Given as goal
-
-abbrev pub invariant-loop-j : goal.invariant-loop-j
-invariant-loop-j l = map view l.list.items ≡ map view l.initial.list.items ++ map (λ n. stage.zero_row l.plants (stage.water_sum l.plants n)) (numbers l.j)

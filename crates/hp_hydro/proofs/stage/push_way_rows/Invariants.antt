@@ -1,8 +1,0 @@
-use Rattle.std.proofs.Common.{map, ◌++◌, ◌≡◌}
-use Rattle.serde_json.specs.View.{view}
-use Rattle.hp_hydro.specs.Stage as stage
-use Rattle.hp_hydro.specs.Layout.{steps}
-use Rattle.hp_hydro.proofs.stage.push_way_rows.Given as goal
-
-abbrev pub invariant-loop-k : goal.invariant-loop-k
-invariant-loop-k l = map view l.list.items ≡ map view l.initial.list.items ++ map (λ k. stage.zero_row l.plants (stage.way_sum l.plants l.j k)) (steps l.k)

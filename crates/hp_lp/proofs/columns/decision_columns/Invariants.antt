@@ -1,6 +1,0 @@
-use Rattle.std.proofs.Common.{◌≡◌, map, take}
-use Rattle.hp_lp.specs.Stage.{decision_column}
-use Rattle.hp_lp.proofs.columns.decision_columns.Given as goal
-
-abbrev pub invariant-loop-decision : goal.invariant-loop-decision
-invariant-loop-decision l = l.found ≡ map (decision_column l.weight) (take l.decision-index l.decisions)

@@ -1,9 +1,0 @@
-use Rattle.std.proofs.Common.{◌≡◌, ◌≤◌, ◌^◌, ◌*◌, take, nat_abs}
-use Rattle.hp_num.specs.Sums.{at_terms, entry}
-use Rattle.hp_lp.proofs.own_rows.at_state.Given as goal
-
-abbrev pub invariant-loop-variable : goal.invariant-loop-variable
-invariant-loop-variable l = record {
-  value : l.total ≡ at_terms (take l.variable-index l.terms) (entry l.state);
-  small : nat_abs l.total ≤ l.variable-index * 2 ^ 104;
-}

@@ -1,5 +1,0 @@
-use Rattle.std.proofs.Common.{◌≡◌}
-use Rattle.hp_lp.proofs.preparing.prepare_at.Given as goal
-
-abbrev pub invariant-loop-successor : goal.invariant-loop-successor
-invariant-loop-successor l = l.pools ≡ l.initial.pools

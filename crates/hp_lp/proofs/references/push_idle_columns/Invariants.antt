@@ -1,6 +1,0 @@
-use Rattle.std.proofs.Common.{◌≡◌, ◌++◌, ℕ, map, take}
-use Rattle.hp_lp.specs.Nodes.{idle_column}
-use Rattle.hp_lp.proofs.references.push_idle_columns.Given as goal
-
-abbrev pub invariant-loop : goal.invariant-loop
-invariant-loop l = l.columns ≡ l.initial.columns ++ map (λ (m : ℕ). idle_column) (take l.index l.successors)

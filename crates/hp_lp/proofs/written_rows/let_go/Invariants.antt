@@ -1,8 +1,0 @@
-use Rattle.std.proofs.Common.{◌≡◌, ◌+◌, ◌-◌, length, take}
-use Rattle.hp_lp.proofs.written_rows.let_go.Given as goal
-
-abbrev pub invariant-loop : goal.invariant-loop
-invariant-loop l = record {
-  left : length l.rows.items ≡ l.initial.end - l.counter + l.count;
-  same : take l.count l.rows.items ≡ take l.count l.initial.rows.items;
-}

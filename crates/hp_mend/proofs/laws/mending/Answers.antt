@@ -1,5 +1,0 @@
-use Rattle.hp_mend.proofs.Meeting.{met_or_kept}
-use Rattle.hp_mend.proofs.laws.mending.Goals as goal
-
-pub returns : goal.returns
-returns c = λ n values x u. met_or_kept n values x u

@@ -1,9 +1,0 @@
-use Rattle.std.proofs.Common.{◌≡◌, ◌≤◌, ◌+◌, ◌-◌, length}
-use Rattle.hp_mend.specs.Moves.{harm_from}
-use Rattle.hp_mend.specs.Stages.{frame_at}
-use Rattle.hp_mend.proofs.moves.harm.Given as goal
-
-abbrev pub invariant-loop-other : goal.invariant-loop-other
-invariant-loop-other l =
-    let f = frame_at l.stage in
-    (l.count + harm_from f l.row l.before l.after l.other (length f.rows - l.other) ≡ harm_from f l.row l.before l.after 0 (length f.rows)) × (l.count ≤ l.other)

@@ -1,4 +1,0 @@
-pub mod Sums
-pub mod Product
-pub mod Steps
-pub mod Lending

@@ -1,6 +1,0 @@
-use Rattle.hp_outside.proofs.MemoryDisks.{agrees_sync}
-use Rattle.hp_outside.proofs.memory_disk.MemDiskDisk.sync.Goals as goal
-
-pub invariant_of-self : goal.invariant_of-self
-invariant_of-self c =
-    agrees_sync c.self.inside.initial.items c.self.inside.history _ c.self.inside.readings _ c.self.invariant c.add_sync.ensures c.sync.ensures

@@ -1,6 +1,0 @@
-use Rattle.std.proofs.Common.{◌≡◌, drop}
-use Rattle.hp_parts.specs.Limits.{terms_fit}
-use Rattle.hp_parts.proofs.limits.terms_fit.Given as goal
-
-abbrev pub invariant-loop-term : goal.invariant-loop-term
-invariant-loop-term l = terms_fit l.count l.least (drop l.term-index l.terms) ≡ terms_fit l.count 0 l.terms

@@ -1,6 +1,0 @@
-use Rattle.std.proofs.Common.{◌≡◌, max, drop}
-use Rattle.hp_paths.specs.Ranks.{longest_from}
-use Rattle.hp_paths.proofs.rank.longest_from.Given as goal
-
-abbrev pub invariant-loop-start : goal.invariant-loop-start
-invariant-loop-start l = max l.most (longest_from l.ranks (drop l.start-index l.starts)) ≡ longest_from l.ranks l.starts

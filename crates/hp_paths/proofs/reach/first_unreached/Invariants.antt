@@ -1,7 +1,0 @@
-use Rattle.std.proofs.Common.{◌≡◌, not, length}
-use Rattle.hp_paths.specs.Paths.{reached, first_unreached}
-use Rattle.hp_paths.proofs.Least.{least_from}
-use Rattle.hp_paths.proofs.reach.first_unreached.Given as goal
-
-abbrev pub invariant-loop-node : goal.invariant-loop-node
-invariant-loop-node l = least_from (λ m. not (reached l.graph l.starts m)) l.node (length l.graph) ≡ first_unreached l.graph l.starts

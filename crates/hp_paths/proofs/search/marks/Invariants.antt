@@ -1,9 +1,0 @@
-use Rattle.std.proofs.Common.{◌≡◌, ◌-◌, length}
-use Rattle.hp_paths.proofs.Searches.{Searched}
-use Rattle.hp_paths.proofs.search.marks.Given as goal
-
-abbrev pub invariant-loop-at : goal.invariant-loop-at
-invariant-loop-at l = (l.search.count ≡ length l.graph) × Searched l.graph l.starts l.search.found l.at
-
-abbrev pub decreases-loop-at : goal.decreases-loop-at
-decreases-loop-at l = length l.graph - l.at

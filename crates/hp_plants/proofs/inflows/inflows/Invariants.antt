@@ -1,8 +1,0 @@
-use Rattle.std.proofs.Common.{◌≡◌, drop}
-use Rattle.serde_json.specs.View.{items_view}
-use Rattle.hp_fields.specs.Steps.{walk_items}
-use Rattle.hp_plants.specs.Stages.{inflow_at, inflows_at}
-use Rattle.hp_plants.proofs.inflows.inflows.Given as goal
-
-abbrev pub invariant-loop-k : goal.invariant-loop-k
-invariant-loop-k l = walk_items (inflow_at l.reservoirs l.t) l.found l.k (items_view (drop l.k l.items)) ≡ inflows_at l.reservoirs l.t (items_view l.items)

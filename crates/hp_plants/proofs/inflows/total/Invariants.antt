@@ -1,6 +1,0 @@
-use Rattle.std.proofs.Common.{◌≡◌, ◌+◌, take}
-use Rattle.hp_plants.specs.Stages.{total_inflow_weight}
-use Rattle.hp_plants.proofs.inflows.total.Given as goal
-
-abbrev pub invariant-loop-inflow : goal.invariant-loop-inflow
-invariant-loop-inflow l = l.left + total_inflow_weight (take l.inflow-index l.inflows) ≡ 65535

@@ -1,5 +1,0 @@
-use Rattle.hp_plants.proofs.Fits.{plants_at-Ok}
-use Rattle.hp_plants.proofs.reading.read_plants.Goals as goal
-
-pub returns-clause-known : goal.returns-clause-known
-returns-clause-known c = plants_at-Ok c.args.bytes.now c.in_ok-plants.plants c.in_ok-plants.ensures

@@ -1,8 +1,0 @@
-use Rattle.std.proofs.Common.{◌≡◌, drop}
-use Rattle.serde_json.specs.View.{items_view}
-use Rattle.hp_fields.specs.Steps.{walk_items}
-use Rattle.hp_plants.specs.Stages.{hydro_stage_at, stages_at}
-use Rattle.hp_plants.proofs.stages.stages.Given as goal
-
-abbrev pub invariant-loop-t : goal.invariant-loop-t
-invariant-loop-t l = walk_items (hydro_stage_at l.buses l.reservoirs) l.found l.t (items_view (drop l.t l.items)) ≡ stages_at l.buses l.reservoirs (items_view l.items)

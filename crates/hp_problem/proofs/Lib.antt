@@ -1,4 +1,0 @@
-pub mod ValidatedFacts
-pub mod BoxFacts
-pub mod Ranked
-pub mod Bounds

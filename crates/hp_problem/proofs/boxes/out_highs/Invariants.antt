@@ -1,6 +1,0 @@
-use Rattle.std.proofs.Common.{◌≡◌, map, take}
-use Rattle.hp_problem.specs.Validated.{out_highs}
-use Rattle.hp_problem.proofs.boxes.out_highs.Given as goal
-
-abbrev pub invariant-loop-subproblem : goal.invariant-loop-subproblem
-invariant-loop-subproblem l = l.found ≡ map out_highs (take l.subproblem-index l.subproblems)

@@ -1,6 +1,0 @@
-use Rattle.std.proofs.Common.{◌≡◌, drop}
-use Rattle.hp_problem.specs.Formulas.{first_dictionary}
-use Rattle.hp_problem.proofs.formulas.first_dictionary.Given as goal
-
-abbrev pub invariant-loop-node : goal.invariant-loop-node
-invariant-loop-node l = first_dictionary l.parts l.cuts (drop l.node-index l.nodes) ≡ first_dictionary l.parts l.cuts l.nodes

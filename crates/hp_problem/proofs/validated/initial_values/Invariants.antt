@@ -1,6 +1,0 @@
-use Rattle.std.proofs.Common.{◌≡◌, map, take}
-use Rattle.hp_parts.specs.declared.parts.State.{State}
-use Rattle.hp_problem.proofs.validated.initial_values.Given as goal
-
-abbrev pub invariant-loop-state : goal.invariant-loop-state
-invariant-loop-state l = l.found ≡ map (λ (s : State). s.initial) (take l.state-index l.states)

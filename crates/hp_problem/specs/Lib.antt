@@ -1,2 +1,0 @@
-pub mod Validated
-pub mod Formulas

@@ -1,7 +1,0 @@
-use Rattle.std.proofs.Common.{◌≡◌, ◌-◌}
-use Rattle.hp_record.specs.Reading.{many, pairs_at}
-use Rattle.hp_record.proofs.Loop.{with_front}
-use Rattle.hp_record.proofs.certificates.cuts.Given as goal
-
-abbrev pub invariant-loop : goal.invariant-loop
-invariant-loop l = with_front l.found.items (many pairs_at (l.count - l.counter) l.tail) ≡ many pairs_at l.count l.bytes

@@ -1,5 +1,0 @@
-use Rattle.hp_record.proofs.PathsBackwards.{backwards_from_path, path_from_backwards}
-use Rattle.hp_record.proofs.laws.paths_read_backwards.Goals as goal
-
-pub returns : goal.returns
-returns c = record { backwards = backwards_from_path; path = path_from_backwards }

@@ -1,7 +1,0 @@
-use Rattle.std.proofs.Common.{◌≡◌, ◌++◌, drop}
-use Rattle.hp_report.specs.Lines.{numbered}
-use Rattle.hp_risk.specs.Report.{risk_cut_line}
-use Rattle.hp_risk.proofs.report.push_node_risk_cuts.Given as goal
-
-abbrev pub invariant-loop-place : goal.invariant-loop-place
-invariant-loop-place l = l.out.items ++ numbered (risk_cut_line l.node) l.place (drop l.place l.risk_cuts) ≡ l.initial.out.items ++ numbered (risk_cut_line l.node) 0 l.risk_cuts

@@ -1,8 +1,0 @@
-use Rattle.std.proofs.Common.{◌≡◌, ◌+◌, sum, take}
-use Rattle.hp_risk.proofs.weights.weights.Given as goal
-
-abbrev pub invariant-loop-weight : goal.invariant-loop-weight
-invariant-loop-weight l = record {
-  found : l.found ≡ take l.weight-index l.all;
-  left : l.left + sum (take l.weight-index l.all) ≡ 65535;
-}

@@ -1,5 +1,0 @@
-use Rattle.hp_run.proofs.Sounding.{sound_done}
-use Rattle.hp_run.proofs.told.run_over_memory.Goals as goal
-
-pub returns : goal.returns
-returns g c command is plans done = sound_done _ command _ _ is plans done c.run.ensures.sound

@@ -1,9 +1,0 @@
--- How a run ends where risk cuts stop.
-use Rattle.hp_risk.specs.declared.risk_cuts.RobustFault.{RobustFault}
-use Rattle.hp_risk.specs.declared.risk_cuts.RobustFault.TheVariants as risk_cuts
-use Rattle.hp_run.specs.declared.status.Status.{Status}
-use Rattle.hp_run.specs.declared.status.Status.TheVariants.{Range, Memory}
-
-abbrev pub status_of_risk_cuts : RobustFault → Status
-status_of_risk_cuts (risk_cuts.Range k m r) = Range k m r
-status_of_risk_cuts risk_cuts.Memory = Memory

@@ -1,5 +1,0 @@
-use Rattle.hp_settle.proofs.WorkedFarkas as lemmas
-use Rattle.hp_settle.proofs.worked.worked_rows.Goals as goal
-
-pub returns : goal.returns
-returns c = record { value = lemmas.refuting_value; refuted = lemmas.refuted_load; not_refuted = lemmas.met_load }

@@ -1,7 +1,0 @@
-pub mod Examples
-pub mod Classifying
-pub mod Farkas
-pub mod Settling
-pub mod Kept
-pub mod SizedSums
-pub mod Faults

@@ -1,8 +1,0 @@
-use Rattle.std.proofs.Common.{◌≡◌, drop}
-use Rattle.serde_json.specs.View.{items_view}
-use Rattle.hp_fields.specs.Steps.{walk_items}
-use Rattle.hp_sof.specs.Scenarios.{scenario_at, scenarios_at}
-use Rattle.hp_sof.proofs.scenarios.scenarios.Given as goal
-
-abbrev pub invariant-loop-k : goal.invariant-loop-k
-invariant-loop-k l = walk_items (scenario_at l.names l.parts) l.found l.k (items_view (drop l.k l.items)) ≡ scenarios_at l.names l.parts (items_view l.items)

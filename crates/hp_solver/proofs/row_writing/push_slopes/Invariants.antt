@@ -1,7 +1,0 @@
-use Rattle.std.proofs.Common.{◌≡◌, ◌++◌, take}
-use Rattle.std.specs.List.{flat_map}
-use Rattle.hp_solver.specs.Packed.{slope_term}
-use Rattle.hp_solver.proofs.row_writing.push_slopes.Given as goal
-
-abbrev pub invariant-loop-out : goal.invariant-loop-out
-invariant-loop-out l = l.terms ≡ l.initial.terms ++ flat_map (slope_term l.slopes) (take l.out-index l.outs)

@@ -1,6 +1,0 @@
-use Rattle.std.proofs.Common.{◌≡◌, take, map}
-use Rattle.hp_subproblem.specs.Boxes.{sides_of}
-use Rattle.hp_subproblem.proofs.boxes.highs.Given as goal
-
-abbrev pub invariant-loop-variable : goal.invariant-loop-variable
-invariant-loop-variable l = l.found ≡ map (λ v. (sides_of l.bounds v).high) (take l.variable-index l.variables)

@@ -1,6 +1,0 @@
-use Rattle.std.proofs.Common.{◌≡◌, ◌++◌, drop}
-use Rattle.hp_subproblem.specs.Decisions.{decisions_from}
-use Rattle.hp_subproblem.proofs.decisions.all_decisions.Given as goal
-
-abbrev pub invariant-loop-variable : goal.invariant-loop-variable
-invariant-loop-variable l = l.found ++ decisions_from l.variable (drop l.variable l.roles) ≡ decisions_from 0 l.roles

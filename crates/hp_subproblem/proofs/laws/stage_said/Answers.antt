@@ -1,5 +1,0 @@
-use Rattle.hp_subproblem.proofs.FileStage.{stage-said}
-use Rattle.hp_subproblem.proofs.laws.stage_said.Goals as goal
-
-pub returns : goal.returns
-returns c = λ states p k d s e. stage-said states p k d s e

@@ -1,5 +1,0 @@
-use Rattle.hp_theory.proofs.Denominators as lemmas
-use Rattle.hp_theory.proofs.laws.positive_denominators.Goals as goal
-
-pub returns : goal.returns
-returns c = record { trees = lemmas.positive_under; policies = lemmas.positive_policy }

@@ -1,5 +1,0 @@
-use Rattle.hp_theory.proofs.Appending as lemmas
-use Rattle.hp_theory.proofs.laws.sound_push.Goals as goal
-
-pub returns : goal.returns
-returns c = lemmas.push_sound

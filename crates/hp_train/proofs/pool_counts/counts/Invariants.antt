@@ -1,6 +1,0 @@
-use Rattle.std.proofs.Common.{◌≡◌, List, length, map, take}
-use Rattle.hp_theory.specs.declared.cut.Cut.{Cut}
-use Rattle.hp_train.proofs.pool_counts.counts.Given as goal
-
-abbrev pub invariant-loop-node : goal.invariant-loop-node
-invariant-loop-node l = l.found ≡ map (λ (cuts : List Cut). length cuts) (take l.node l.pools.lists)

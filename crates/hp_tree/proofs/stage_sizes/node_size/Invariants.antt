@@ -1,8 +1,0 @@
-use Rattle.hp_theory.specs.Problem.{node_at}
-use Rattle.hp_theory.specs.View.{problem_of}
-use Rattle.hp_tree.specs.TooBig.{stage_cost_size}
-use Rattle.hp_tree.proofs.Sizing.{MostGoes}
-use Rattle.hp_tree.proofs.stage_sizes.node_size.Given as goal
-
-abbrev pub invariant-loop-values : goal.invariant-loop-values
-invariant-loop-values l = MostGoes (stage_cost_size (node_at (problem_of l.problem) l.node)) l.values-items l.cap l.values-index l.most

@@ -1,9 +1,0 @@
-use Rattle.std.proofs.Common.{◌≡◌, ◌≤◌, ◌*◌, ◌^◌, pos, nat_abs, drop}
-use Rattle.hp_warm_answers.specs.Finish.{columns_from}
-use Rattle.hp_warm_answers.proofs.finishing.columns_cost.Given as goal
-
-abbrev pub invariant-loop-v : goal.invariant-loop-v
-invariant-loop-v l = record {
-  value : columns_from l.table 0 (pos 0) l.costs ≡ columns_from l.table l.v l.sum (drop l.v l.costs);
-  small : nat_abs l.sum ≤ l.v * 2 ^ 115;
-}

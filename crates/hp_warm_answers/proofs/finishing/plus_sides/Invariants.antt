@@ -1,9 +1,0 @@
-use Rattle.std.proofs.Common.{◌≡◌, ◌≤◌, ◌+◌, ◌*◌, ◌^◌, nat_abs, drop}
-use Rattle.hp_warm_answers.specs.Finish.{sides_from}
-use Rattle.hp_warm_answers.proofs.finishing.plus_sides.Given as goal
-
-abbrev pub invariant-loop-j : goal.invariant-loop-j
-invariant-loop-j l = record {
-  value : sides_from l.table 0 l.fn.sum l.nonbasic ≡ sides_from l.table l.j l.sum (drop l.j l.nonbasic);
-  small : nat_abs l.sum ≤ (1199 + l.j) * 2 ^ 115;
-}

@@ -1,9 +1,0 @@
-use Rattle.std.proofs.Common.{◌≡◌, ◌≤◌, ◌^◌, nat_abs, None, IfSome, drop}
-use Rattle.hp_warm_answers.specs.Ray.{greatest_from}
-use Rattle.hp_warm_answers.proofs.ray.greatest.Given as goal
-
-abbrev pub invariant-loop-i : goal.invariant-loop-i
-invariant-loop-i l = record {
-  value : greatest_from l.stuck.table.now l.stuck.line.now l.stuck.variable l.stuck.above 0 None l.exponents ≡ greatest_from l.stuck.table.now l.stuck.line.now l.stuck.variable l.stuck.above l.i l.best (drop l.i l.exponents);
-  small : IfSome l.best (λ b. nat_abs b ≤ 2 ^ 32);
-}

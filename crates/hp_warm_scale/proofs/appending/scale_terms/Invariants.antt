@@ -1,8 +1,0 @@
-use Rattle.std.proofs.Common.{◌≡◌, drop}
-use Rattle.hp_simplex.specs.Each.{each_from}
-use Rattle.hp_simplex.proofs.Each.{behind}
-use Rattle.hp_warm_scale.specs.Appending.{scaled_term, scaled_terms}
-use Rattle.hp_warm_scale.proofs.appending.scale_terms.Given as goal
-
-abbrev pub invariant-loop-k : goal.invariant-loop-k
-invariant-loop-k l = scaled_terms l.exponents l.exponent l.terms ≡ behind l.found (each_from (λ k t. scaled_term l.exponents l.exponent t) l.k (drop l.k l.terms))

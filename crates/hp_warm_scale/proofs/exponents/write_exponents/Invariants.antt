@@ -1,9 +1,0 @@
-use Rattle.std.proofs.Common.{◌≡◌, ◌++◌, take, drop, map, length}
-use Rattle.hp_warm_scale.specs.Exponents.{column_lift}
-use Rattle.hp_warm_scale.proofs.exponents.write_exponents.Given as goal
-
-abbrev pub invariant-loop-j : goal.invariant-loop-j
-invariant-loop-j l = record {
-  count : length l.exponents ≡ length l.fn.exponents;
-  value : l.exponents ≡ take l.j (map column_lift l.spans) ++ drop l.j l.fn.exponents;
-}

@@ -1,9 +1,0 @@
-use Rattle.std.proofs.Common.{◌≡◌, length, take}
-use Rattle.hp_warm_scale.specs.Fences.{AreLimits}
-use Rattle.hp_warm_scale.proofs.fences.write_limits.Given as goal
-
-abbrev pub invariant-loop-state : goal.invariant-loop-state
-invariant-loop-state l = record {
-  count : length l.limits ≡ length l.fn.limits;
-  value : AreLimits l.greatest (take l.state-index l.lifts) l.limits;
-}

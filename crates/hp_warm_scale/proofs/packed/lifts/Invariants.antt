@@ -1,6 +1,0 @@
-use Rattle.std.proofs.Common.{◌≡◌, map, take}
-use Rattle.hp_warm_scale.specs.Packed.{lift_of}
-use Rattle.hp_warm_scale.proofs.packed.lifts.Given as goal
-
-abbrev pub invariant-loop-out : goal.invariant-loop-out
-invariant-loop-out l = l.found ≡ map (lift_of l.exponents) (take l.out-index l.outs)

@@ -1,7 +1,0 @@
-use Rattle.std.proofs.Common.{List, take, All}
-use Rattle.hp_solver.specs.PackedCut.{PackedCut}
-use Rattle.hp_solver.specs.PackedCut.{IsSmallCut}
-use Rattle.hp_warm_scale.proofs.packed.read_all.Given as goal
-
-abbrev pub invariant-loop-k : goal.invariant-loop-k
-invariant-loop-k l = All (λ (cs : List PackedCut). All IsSmallCut cs) (take l.k l.view.cuts)

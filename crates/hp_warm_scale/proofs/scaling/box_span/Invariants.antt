@@ -1,8 +1,0 @@
-use Rattle.std.proofs.Common.{◌≡◌, drop}
-use Rattle.hp_warm_scale.specs.Walks.{walk}
-use Rattle.hp_warm_scale.specs.Spans.{span_of, joined_span}
-use Rattle.hp_warm_scale.specs.Scaling.{box_weight}
-use Rattle.hp_warm_scale.proofs.scaling.box_span.Given as goal
-
-abbrev pub invariant-loop-j : goal.invariant-loop-j
-invariant-loop-j l = span_of (box_weight l.exponents) l.decisions ≡ walk (λ j s c. joined_span s (box_weight l.exponents j c)) l.j l.span (drop l.j l.decisions)

@@ -1,6 +1,0 @@
-use Rattle.std.proofs.Common.{◌≡◌, ◌-◌, ◌++◌}
-use Rattle.hp_warm_scale.specs.Walks.{count_from}
-use Rattle.hp_warm_scale.proofs.tables.counted.Given as goal
-
-abbrev pub invariant-loop-j : goal.invariant-loop-j
-invariant-loop-j l = count_from 0 l.fn.count ≡ l.found ++ count_from l.j (l.fn.count - l.j)

@@ -1,6 +1,0 @@
-use Rattle.std.proofs.Common.{◌≡◌, map, take}
-use Rattle.hp_warm_scan.specs.Values.{state_number}
-use Rattle.hp_warm_scan.proofs.values.write_states.Given as goal
-
-abbrev pub invariant-loop-x : goal.invariant-loop-x
-invariant-loop-x l = l.states ≡ map state_number (take l.x-index l.point)

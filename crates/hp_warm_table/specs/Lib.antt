@@ -1,7 +1,0 @@
-pub mod Numbers
-pub mod Ends
-pub mod Bounding
-pub mod Shape
-pub mod Kept
-pub mod Updates
-pub mod Sparse

@@ -1,5 +1,0 @@
-use Rattle.hp_wide.proofs.Shifts.{up_absent}
-use Rattle.hp_wide.proofs.double_words.shift_up.Goals as goal
-
-pub returns-else-k-eq127 : goal.returns-else-k-eq127
-returns-else-k-eq127 c = up_absent c.args.v c.args.k c.if-k-le126.false c.if-v-eq0.false c.else-k-eq127.either

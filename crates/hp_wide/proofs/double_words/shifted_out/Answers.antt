@@ -1,5 +1,0 @@
-use Rattle.hp_wide.proofs.Shifts.{shifted_out_is}
-use Rattle.hp_wide.proofs.double_words.shifted_out.Goals as goal
-
-pub returns : goal.returns
-returns c = shifted_out_is c.args.a c.args.k c.cast_unsigned.result c.ranges.a c.requires.most c.cast_unsigned.ensures

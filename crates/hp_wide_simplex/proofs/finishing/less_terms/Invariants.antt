@@ -1,9 +1,0 @@
-use Rattle.std.proofs.Common.{◌≡◌, length, drop}
-use Rattle.hp_wide_simplex.specs.Finish.{wide_less_terms}
-use Rattle.hp_wide_simplex.proofs.finishing.less_terms.Given as goal
-
-abbrev pub invariant-loop-k : goal.invariant-loop-k
-invariant-loop-k l = record {
-  rests : wide_less_terms l.dual l.fn.rests l.terms ≡ wide_less_terms l.dual l.rests (drop l.k l.terms);
-  lengths : length l.rests ≡ length l.fn.rests;
-}

@@ -1,9 +1,0 @@
-use Rattle.std.proofs.Common.{◌≡◌, ◌++◌, length, drop}
-use Rattle.hp_wide_simplex.specs.Finish.{wide_whole_costs}
-use Rattle.hp_wide_simplex.proofs.finishing.whole_costs.Given as goal
-
-abbrev pub invariant-loop-j : goal.invariant-loop-j
-invariant-loop-j l = record {
-  costs : wide_whole_costs l.costs ≡ l.found ++ wide_whole_costs (drop l.j l.costs);
-  lengths : length l.found ≡ l.j;
-}

@@ -1,9 +1,0 @@
-use Rattle.std.proofs.Common.{◌≡◌, length, drop}
-use Rattle.hp_wide_simplex.specs.Line.{wide_added_terms}
-use Rattle.hp_wide_simplex.proofs.line.add_terms.Given as goal
-
-abbrev pub invariant-loop-k : goal.invariant-loop-k
-invariant-loop-k l = record {
-  width : length l.line ≡ length l.fn.line;
-  added : wide_added_terms l.places l.lines l.fn.line l.terms ≡ wide_added_terms l.places l.lines l.line (drop l.k l.terms);
-}

@@ -1,6 +1,0 @@
-use Rattle.std.proofs.Common.{◌≡◌, pos, drop}
-use Rattle.hp_wide_simplex.specs.Activity.{wide_terms_from}
-use Rattle.hp_wide_simplex.proofs.sums.terms_at.Given as goal
-
-abbrev pub invariant-loop-k : goal.invariant-loop-k
-invariant-loop-k l = wide_terms_from (pos 0) l.terms l.x ≡ wide_terms_from l.sum (drop l.k l.terms) l.x

@@ -1,9 +1,0 @@
-use Rattle.std.proofs.Common.{◌≡◌}
-use Rattle.hp_worker.specs.Holding.{Holds}
-use Rattle.hp_worker.proofs.rounds.take_turns.Given as goal
-
-abbrev pub invariant-loop-turn : goal.invariant-loop-turn
-invariant-loop-turn g l = record {
-  holds : Holds l.task.problem.now l.task.batch l.held.found;
-  before : l.joining.before ≡ l.initial.joining.before;
-}

@@ -1,0 +1,16 @@
+use Rattle.std.proofs.Common.{map, ◌∙◌, ap}
+use Rattle.serde_json.specs.Data.{no_members}
+use Rattle.hydro_form.specs.Listed.{put_by}
+use Rattle.hydro_form.proofs.Rises.{put_rising}
+use Rattle.hydro_make.specs.Layout as layout
+use Rattle.hydro_make.specs.Columns.{state_name}
+use Rattle.hydro_make.specs.Stage as stage
+use Rattle.hydro_make.specs.Seen.{seen_store}
+use Rattle.hydro_make.proofs.Orders.{stores_rise}
+use Rattle.hydro_make.proofs.stage.states.Goals as goal
+
+pub returns : goal.returns
+unfolding stage.states
+returns c =
+    let h = c.args.plants.now in
+    c.in_ok-map.ensures ∙ ap (λ xs. put_by (state_name h) (stage.state h) xs no_members) (ap (map seen_store) c.as_slice.ensures.value ∙ c.in_ok-stores.ensures) ∙ put_rising (state_name h) (stage.state h) (layout.stores h) (stores_rise h c.requires)

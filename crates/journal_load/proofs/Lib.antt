@@ -1,0 +1,10 @@
+pub mod Binding
+pub mod Once
+pub mod CutsKept
+pub mod Raising
+pub mod Adding
+pub mod Recorded
+pub mod Reaching
+pub mod Loops
+pub mod DiskReadings
+pub mod Outcomes

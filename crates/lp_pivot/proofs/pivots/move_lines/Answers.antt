@@ -1,0 +1,14 @@
+use Rattle.std.proofs.Common.{◌∙◌, arith}
+use Rattle.lp_pivot.specs.Pivot.{moved_or_kept}
+use Rattle.lp_pivot.proofs.Lines.{line_step, line_absent}
+use Rattle.lp_pivot.proofs.pivots.move_lines.Goals as goal
+
+pub loop-k-preserved : goal.loop-k-preserved
+loop-k-preserved c = record {
+  count = c.move_line.ensures.count ∙ c.loop-k.invariant.count;
+  moved = line_step (moved_or_kept c.args.by.now.places.now c.args.by.now.leaving c.args.by.now.place c.args.by.now.entering.now) _ c.loop-k.lines c.loop-k.k (omega (arith, c.loop-k-test.true, c.loop-k.invariant.count)) c.move_line.new.lines c.if-not-move_line.ensures.moved c.loop-k.invariant.moved;
+}
+
+pub returns-then-not-move_line-clause-moved : goal.returns-then-not-move_line-clause-moved
+returns-then-not-move_line-clause-moved c =
+    line_absent (moved_or_kept c.args.by.now.places.now c.args.by.now.leaving c.args.by.now.place c.args.by.now.entering.now) _ c.loop-k.lines c.loop-k.k (omega (arith, c.loop-k-test.true, c.loop-k.invariant.count)) c.if-not-move_line.ensures.moved c.loop-k.invariant.moved

@@ -1,0 +1,8 @@
+use Rattle.std.proofs.Common.{◌≡◌, drop}
+use Rattle.base_num.specs.Each.{each_from}
+use Rattle.base_num.proofs.Each.{behind}
+use Rattle.lp_price.specs.Found.{point_value_at}
+use Rattle.lp_price.proofs.found.fill.Given as goal
+
+abbrev pub invariant-loop-j : goal.invariant-loop-j
+invariant-loop-j l = each_from (point_value_at l.table) 0 l.columns ≡ behind l.found (each_from (point_value_at l.table) l.j (drop l.j l.columns))

@@ -1,0 +1,7 @@
+use Rattle.std.proofs.Common.{sym, subst}
+use Rattle.lp_scale.specs.Fitting.{AreNarrow}
+use Rattle.lp_scale.proofs.Narrow.{waiting_narrow}
+use Rattle.lp_scale.proofs.widening.widen.Goals as goal
+
+pub widen_by-requires-clause-narrow : goal.widen_by-requires-clause-narrow
+widen_by-requires-clause-narrow c = subst (AreNarrow c.args.lp.now) (sym c.in_ok-waiting.ensures.value) (waiting_narrow c.args.lp.now)

@@ -1,0 +1,5 @@
+use Rattle.std.proofs.Common.{ℕ, ◌<◌, ◌≤◌, get_or}
+use Rattle.lp_scan.proofs.bounds.next_from.Given as goal
+
+abbrev pub invariant-loop-k : goal.invariant-loop-k
+invariant-loop-k l = (i : ℕ) → l.from ≤ i → i < l.k → get_or l.bounds i 0 < l.limit

@@ -1,0 +1,14 @@
+pub mod ByHalves
+pub mod Division
+pub mod Held
+pub mod Rounding
+pub mod Scales
+pub mod Shifts
+pub mod WorkedWide
+pub mod Giving
+pub mod Halves
+pub mod Moves
+pub mod Rising
+pub mod Shapes
+pub mod Shaping
+pub mod Worked

@@ -1,0 +1,8 @@
+use Rattle.std.proofs.Common.{◌≡◌, drop}
+use Rattle.base_num.specs.Each.{each_from}
+use Rattle.base_num.proofs.Each.{behind}
+use Rattle.lp_wide_table.specs.Appending.{wide_scaled_term, wide_scaled_terms}
+use Rattle.lp_wide_table.proofs.appending.scale_terms.Given as goal
+
+abbrev pub invariant-loop-k : goal.invariant-loop-k
+invariant-loop-k l = wide_scaled_terms l.exponents l.exponent l.terms ≡ behind l.found (each_from (λ k t. wide_scaled_term l.exponents l.exponent t) l.k (drop l.k l.terms))

@@ -1,0 +1,9 @@
+pub mod WideWhole
+pub mod Numbers
+pub mod Bounding
+pub mod Shape
+pub mod SameParts
+pub mod Updates
+pub mod Scaling
+pub mod Appending
+pub mod Making

@@ -1,0 +1,10 @@
+use Rattle.std.proofs.Common.{arith}
+use Rattle.std.proofs.lemmas.Nat.Gcd.{IsGcd-from_zero, IsGcd-from_mod, same_from_IsGcd}
+use Rattle.policy_evaluate.proofs.Divisors.{is_gcd}
+use Rattle.policy_evaluate.proofs.multiples.gcd.Goals as goal
+
+pub loop-y-preserved : goal.loop-y-preserved
+loop-y-preserved c g h = c.loop-y.invariant g (IsGcd-from_mod _ _ g h)
+
+pub returns : goal.returns
+returns c = same_from_IsGcd _ _ _ _ (c.loop-y.invariant _ (IsGcd-from_zero _ _ (omega arith))) (is_gcd c.args.a c.args.b)

@@ -1,0 +1,12 @@
+pub mod SubproblemFacts
+pub mod ValidatedFacts
+pub mod BoxFacts
+pub mod Ranked
+pub mod Bounds
+pub mod Enclosing
+pub mod Fitting
+pub mod Listed
+pub mod Outside
+pub mod Small
+pub mod Tables
+pub mod Given

@@ -1,0 +1,6 @@
+use Rattle.std.proofs.Common.{◌≡◌, take, map}
+use Rattle.read_stage.specs.Boxes.{sides_of}
+use Rattle.read_stage.proofs.boxes.lows.Given as goal
+
+abbrev pub invariant-loop-variable : goal.invariant-loop-variable
+invariant-loop-variable l = l.found ≡ map (λ v. (sides_of l.bounds v).low) (take l.variable-index l.variables)

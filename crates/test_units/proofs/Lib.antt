@@ -1,0 +1,2 @@
+mod WorkedBody
+mod Singles
