@@ -10,7 +10,7 @@ from model_support import TOP, Folder
 from page_blocks import run_blocks
 from random_plants import Case
 from hydroplan import plants
-from hydroplan.plants.element import Element
+from hydroplan.plants.elements import Element
 
 PAGE = TOP / "docs" / "use" / "PLANTS.md"
 BLOCKS = {"peak": [186, 168, 186], "base": [558, 504, 558]}

@@ -7,7 +7,7 @@ from extensive_plants import Extensive, needs_scipy
 from model_support import Folder
 from random_plants import Case
 from hydroplan.plants import Battery, Bus, Export, Import, Line, Pump, Random, Renewable, Reservoir, System, Thermal, Tiers, Way, flow
-from hydroplan.plants.discounting import discount
+from hydroplan.plants.system import discount
 from hydroplan.runs import NoStageSolution, train
 
 COAL = Thermal("coal", "b", 5, 100)

@@ -6,12 +6,9 @@
     system.outcomes([[(1, {"lake": 0}), (1, {"lake": 50}), (1, {"lake": 100})]] * 3)
     compiled = system.compile()
 """
-from .amounts import Flow, Random, Tiers, flow
-from .columns import Column, column
-from .energy_elements import Battery, Bus, Export, Import, Line, Renewable, Thermal
-from .errors import CostFalls, NotDescribed, PlantError, UnknownName
+from .amounts import Column, CostFalls, Flow, NotDescribed, PlantError, Random, Tiers, UnknownName, column, flow
+from .elements import As, Battery, Bus, Export, Import, Line, Pump, Renewable, Reservoir, Thermal, Way
 from .system import System
-from .water_elements import As, Pump, Reservoir, Way
 
 __all__ = [
     "As", "Battery", "Bus", "Column", "CostFalls", "Export", "Flow", "Import", "Line", "NotDescribed", "PlantError", "Pump", "Random",

@@ -1,18 +1,107 @@
-"""Numbers as a user gives them for stages and load blocks, and the exact tables that are read of them.
+"""Numbers as a user gives them for stages and load blocks, the exact tables that are read of them, and what is refused of them.
 
 A number is one number, a list with one for each stage, or a column of a CSV file; where a member has numbers for load blocks,
-also a mapping with one of these for each block, and a list may have such mappings.
+also a mapping with one of these for each block, and a list may have such mappings. Refusals name the element, the member, and the
+file and line where it was made.
 """
 from __future__ import annotations
 
+import csv
+import dataclasses
+import difflib
+import os
+import sys
 from dataclasses import dataclass, replace
 from fractions import Fraction
-from typing import Any, Dict, List, Mapping, Optional, Sequence, Tuple, Union
+from types import FrameType
+from typing import Any, Dict, Iterable, List, Mapping, Optional, Sequence, Tuple, Union
 
+from ..code_places import CodePlace, given_place
+from ..errors import ModelError
 from ..exact import Number, exact
-from .columns import Column
-from .errors import CostFalls, PlantError, UnknownName, suggestion
-from .places import users_line
+
+
+class PlantError(ModelError):
+    """A system that is wrong."""
+
+
+class UnknownName(PlantError):
+    """A member, a block, a station, a column or an element that is not there; the message has the name that is most like it."""
+
+
+class CostFalls(PlantError):
+    """Tiers whose costs fall, or whose values rise: no linear program would fill them in their order. The message has both tiers."""
+
+
+class NotDescribed(PlantError):
+    """A system that the description of hydro plants has no words for, or numbers that are not whole in its units."""
+
+
+def suggestion(name: object, known: Iterable[str]) -> str:
+    """The known name that is most like a name, in words, or all of them where none is like it."""
+    names = list(known)
+    like = difflib.get_close_matches(str(name), names, 1)
+    if like:
+        return f'did you mean "{like[0]}"?'
+    return f"known are {', '.join(names)}" if names else "there are none"
+
+
+PLANTS = os.path.dirname(os.path.abspath(__file__))
+PACKAGES = (PLANTS, os.path.dirname(PLANTS))
+
+
+def _is_ours(file: str) -> bool:
+    return os.path.dirname(os.path.abspath(file)) in PACKAGES or file == dataclasses.__file__
+
+
+def users_line() -> CodePlace:
+    """The nearest line that stands outside of this package, the one around it, and `dataclasses`, whose `replace` makes elements too."""
+    given = given_place()
+    if given is not None:
+        return given
+    frame: Optional[FrameType] = sys._getframe(1)
+    while frame is not None and _is_ours(frame.f_code.co_filename):
+        frame = frame.f_back
+    return CodePlace("?", 0) if frame is None else CodePlace(frame.f_code.co_filename, frame.f_lineno)
+
+
+@dataclass(frozen=True)
+class Column:
+    """A column of a CSV file: its first row has names, and each row behind it the numbers of a stage, in their order.
+
+    Files are UTF-8. Numbers are decimals, as in 12.5; a file that writes 12,5 has to be changed.
+    """
+
+    path: Union[str, "os.PathLike[str]"]
+    name: str
+    delimiter: str = ","
+
+    def numbers(self, called: str) -> List[Fraction]:
+        """The numbers, or PlantError with the member that asks for them and the line of the file."""
+        try:
+            with open(self.path, newline="", encoding="utf-8-sig") as file:
+                return self._read(csv.reader(file, delimiter=self.delimiter), called)
+        except (OSError, UnicodeDecodeError, csv.Error) as fault:
+            raise PlantError(f"{called}: the file {os.fspath(self.path)} cannot be read: {fault}") from None
+
+    def _read(self, rows: Any, called: str) -> List[Fraction]:
+        names = [it.strip() for it in next(rows, [])]
+        if self.name not in names:
+            raise UnknownName(f'{called}: {os.fspath(self.path)} has no column "{self.name}": {suggestion(self.name, names)}')
+        at = names.index(self.name)
+        return [self._number(row, at, rows.line_num, called) for row in rows if row]
+
+    def _number(self, row: List[str], at: int, line: int, called: str) -> Fraction:
+        where = f'{called}, column "{self.name}" of {os.fspath(self.path)}:{line}'
+        if at >= len(row):
+            raise PlantError(f"{where}: the row has {len(row)} fields")
+        return exact(row[at], where)
+
+
+def column(path: Union[str, "os.PathLike[str]"], name: str, delimiter: str = ",") -> Column:
+    """The numbers of a column of a CSV file, one for each stage."""
+    return Column(path, name, delimiter)
+
 
 Values = Union[Number, Column, Sequence[Union[Number, None, Mapping[str, Number]]], Mapping[str, Union[Number, Column, Sequence[Number]]]]
 

@@ -8,12 +8,9 @@ from fractions import Fraction
 from math import gcd, lcm
 from typing import TYPE_CHECKING, Any, Dict, List, Tuple
 
-from .element import Element
-from .energy_elements import Bus, Line, Thermal
-from .errors import NotDescribed
-from .numbers_of import Numbers
-from .water_elements import As, Reservoir
-from .water_rows import under_way
+from .elements import As, Bus, Element, Line, Numbers, Reservoir, Thermal
+from .amounts import NotDescribed
+from .rows import under_way
 
 if TYPE_CHECKING:
     from .system import System

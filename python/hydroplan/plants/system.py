@@ -1,7 +1,8 @@
-"""A system of hydro and thermal plants, and the model that it means."""
+"""A system of hydro and thermal plants, and the model that it means: a stage for each stage, with the rows of all elements."""
 from __future__ import annotations
 
 from dataclasses import replace
+from decimal import Decimal, localcontext
 from fractions import Fraction
 from typing import Any, Dict, List, Mapping, Optional, Sequence, Tuple, Type, TypeVar, cast
 
@@ -10,15 +11,30 @@ from ..graphs import PolicyGraph
 from ..inflows.realizations import Inflows
 from ..model import Model
 from ..programs import Compiled
-from .amounts import Horizon, Member, TableReader, Values, in_range
+from .amounts import Horizon, Member, PlantError, TableReader, UnknownName, Values, in_range, suggestion, users_line
 from .description import Units, description_text
-from .discounting import discount
-from .element import Element
-from .errors import PlantError, UnknownName, suggestion
-from .numbers_of import Numbers
-from .places import users_line
-from .randomness import carried_at_first, inflow_graph, linear_graph
-from .writing import model_of
+from .elements import Battery, Bus, Element, Export, Import, Line, Numbers, Pump, Renewable, Reservoir, Thermal
+from .rows import (
+    StageRows, carried_at_first, inflow_graph, initial_states, linear_graph, write_balance, write_battery, write_bus, write_export, write_import,
+    write_line, write_pump, write_renewable, write_reservoir, write_thermal,
+)
+
+DIGITS = 80
+
+
+def discount(rate: Fraction, years: Fraction, resolution: Fraction) -> Fraction:
+    """(1 + rate)^(-years) as the nearest multiple of the resolution; exactly where the rate or the years are 0.
+
+    This is where a discount is rounded, and the only place: the power is taken with 80 digits before.
+    """
+    if rate == 0 or years == 0:
+        return Fraction(1)
+    with localcontext() as context:
+        context.prec = DIGITS
+        base = Decimal((1 + rate).numerator) / Decimal((1 + rate).denominator)
+        power = Fraction(base ** (-Decimal(years.numerator) / Decimal(years.denominator)))
+    return round(power / resolution) * resolution
+
 
 Outcome = Tuple[Number, Mapping[str, Number]]
 Outcomes = Sequence[Sequence[Outcome]]
@@ -201,3 +217,58 @@ def _outcome(given: Outcome, called: str) -> Tuple[Fraction, Dict[str, Fraction]
     weight, values = given
     found = {name: exact(value, f'the value of "{name}" in {called}') for name, value in values.items()}
     return exact_weight(weight, f"the weight of {called}"), found
+
+
+def model_of(system: System) -> Model:
+    """The model of a system whose elements fit each other."""
+    initial = _initial(system)
+    model = Model(dict(initial))
+    graph = system.graph()
+    for node in graph.nodes:
+        stage = model.stage(node.name)
+        stage.place = system.place
+        rows = StageRows(system, stage, node)
+        _write_water(rows, system)
+        _write_energy(rows, system)
+        rows.finish()
+        model.node(node.name, stage, rows.realizations(), node.successors)
+        model.nodes[node.name] = replace(model.nodes[node.name], place=system.place)
+    model.root(graph.root)
+    model.place = system.place
+    return model
+
+
+def _initial(system: System) -> Dict[str, Fraction]:
+    found: Dict[str, Fraction] = {}
+    for reservoir, numbers in system.of_kind(Reservoir):
+        found.update(initial_states(reservoir, numbers))
+    for battery, numbers in system.of_kind(Battery):
+        found[f"stored:{battery.name}"] = numbers.at("initial", 1)
+    found.update({f"inflow:{station}": value for station, value in system.carried().items()})
+    return found
+
+
+def _write_water(rows: StageRows, system: System) -> None:
+    for reservoir, numbers in system.of_kind(Reservoir):
+        write_reservoir(rows, reservoir, numbers)
+    for pump, numbers in system.of_kind(Pump):
+        write_pump(rows, pump, numbers)
+    for reservoir, numbers in system.of_kind(Reservoir):
+        write_balance(rows, reservoir, numbers)
+
+
+def _write_energy(rows: StageRows, system: System) -> None:
+    for thermal, numbers in system.of_kind(Thermal):
+        write_thermal(rows, thermal, numbers)
+    for line, numbers in system.of_kind(Line):
+        write_line(rows, line, numbers)
+    for renewable, numbers in system.of_kind(Renewable):
+        write_renewable(rows, renewable, numbers)
+    for bought, numbers in system.of_kind(Import):
+        write_import(rows, bought, numbers)
+    for sold, numbers in system.of_kind(Export):
+        write_export(rows, sold, numbers)
+    for battery, numbers in system.of_kind(Battery):
+        write_battery(rows, battery, numbers)
+    for bus, numbers in system.of_kind(Bus):
+        write_bus(rows, bus, numbers)

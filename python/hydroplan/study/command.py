@@ -14,7 +14,7 @@ from hydroplan.tools.shown_names import shown_name
 from ..clamped import clamped_rows
 from ..errors import HydroplanError, NoStageSolution, TrainingInterrupted
 from ..limits import sizes
-from ..plants.element import Element
+from ..plants.elements import Element
 from ..tables import package
 from .dead_ends import dead_end
 from .kept_journal import KeptJournal

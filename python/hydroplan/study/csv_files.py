@@ -8,7 +8,7 @@ from typing import Dict, List, Sequence, Tuple
 
 from hydroplan.tools.shown_names import shown_name
 
-from ..plants.errors import suggestion
+from ..plants.amounts import suggestion
 from .document import Table
 from .errors import StudyError
 

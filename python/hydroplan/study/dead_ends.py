@@ -4,8 +4,7 @@ from __future__ import annotations
 from typing import Any, Dict, Iterator, List, Tuple
 
 from ..errors import NoStageSolution
-from ..plants.element import Element
-from ..plants.numbers_of import Numbers
+from ..plants.elements import Element, Numbers
 from .errors import StudyError
 from .study import Study
 

@@ -14,7 +14,7 @@ from hydroplan.tools.shown_names import shown_name
 from ..code_places import CodePlace
 from ..errors import MissingPackage
 from ..exact import is_number
-from ..plants.errors import suggestion
+from ..plants.amounts import suggestion
 from .errors import StudyError
 from .toml_lines import Path, lines_of
 

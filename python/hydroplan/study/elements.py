@@ -11,7 +11,7 @@ from ..code_places import CodePlace, standing_at
 from ..errors import ModelError
 from ..exact import is_number
 from ..plants import Battery, Bus, Export, Import, Line, Pump, Renewable, Reservoir, System, Thermal, Way
-from ..plants.element import Element
+from ..plants.elements import Element
 from .csv_files import CsvFile, CsvFiles
 from .document import Document, Table, shown
 from .errors import StudyError

@@ -13,7 +13,7 @@ from ..inflows import (
     Horizon, InflowError, Inflows, Record, grouped_years, independent_years, markov_classes, periodic_autoregression, read_record,
 )
 from ..inflows.records import LEAVE_OUT, REFUSE, UNITS, VOLUME
-from ..plants.errors import suggestion
+from ..plants.amounts import suggestion
 from ..plants.system import Outcome
 from .csv_files import CsvFiles
 from .document import Table, shown

@@ -7,8 +7,7 @@ from typing import Any, Dict, List, Mapping, Optional, Sequence, Set
 
 from ..exact import exact, is_number
 from ..plants import Random, Tiers, flow
-from ..plants.amounts import Member
-from ..plants.errors import suggestion
+from ..plants.amounts import Member, suggestion
 from .csv_files import CsvFiles
 from .document import Table, shown
 from .stage_calendar import IN_A_YEAR, MONTH, WEEK, StageCalendar

@@ -12,7 +12,7 @@ from typing import Dict, Iterator, List, Mapping, Optional, Sequence, Tuple
 from ..graphs import GraphNode
 from ..plants import Bus, Reservoir, System
 from ..plants.amounts import Table
-from ..plants.numbers_of import Numbers
+from ..plants.elements import Numbers
 from ..stages import Stage
 
 BY_STAGE = ("volume", "stored", "spilled")

@@ -6,8 +6,7 @@ from typing import Any, Dict, Iterator, List, Optional
 
 from .. import __version__
 from ..plants import Battery, Bus, Reservoir, Thermal
-from ..plants.element import Element
-from ..plants.numbers_of import Numbers
+from ..plants.elements import Element, Numbers
 from ..results import Evaluation, Training, half_width
 from ..tables import package
 from .exporting import Scenarios
