@@ -146,7 +146,7 @@ class Reservoir(Element):
     """A reservoir with its turbine.
 
     A penalty is in money per hm3 that is missing, alone or in tiers of hm3; without one, what is asked for has to be met, and a
-    stage without enough water has no solution. docs/PLANTS.md has the equations.
+    stage without enough water has no solution. docs/use/PLANTS.md has the equations.
     """
 
     maximum: Values

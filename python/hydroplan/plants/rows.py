@@ -1,7 +1,7 @@
 """Variables, costs and rows of the elements of water and of energy, for one stage that is being written.
 
 Each has the line of its element. What comes to each bus and reservoir is added up there. What is
-drawn at the nodes of the policy graph are outcomes of the system, or those of a model of inflow (docs/INFLOWS.md).
+drawn at the nodes of the policy graph are outcomes of the system, or those of a model of inflow (docs/use/INFLOWS.md).
 """
 from __future__ import annotations
 
