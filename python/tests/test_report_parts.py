@@ -4,10 +4,9 @@ from datetime import date, timedelta
 
 from report_support import UPPER_VOLUME, ReportFolder, needs_numpy, needs_pandas
 
-from hydroplan.report.axes import date_ticks, round_ticks
+from hydroplan.report.drawing import date_ticks, round_ticks
 from hydroplan.report.formats import decimals_for, energy_unit, money_unit, number, rounded_down, rounded_up, share
-from hydroplan.report.study_summary import Stage, Units
-from hydroplan.report.years import years_of
+from hydroplan.report.folder import Stage, Units, years_of
 
 EURO = Units("EUR", 1.0, "MWh", "hm3", "MW")
 
@@ -77,7 +76,7 @@ class Years(unittest.TestCase):
 class Sums(ReportFolder):
     def sums_of(self, rows, turned):
         """The sums over parts of so many rows, perhaps the last part first, with room for three scenarios at first."""
-        from hydroplan.report.decisions import Sums as SumsOfDecisions
+        from hydroplan.report.shown_study import Sums as SumsOfDecisions
         from hydroplan.report.folder import Results
 
         results = Results(self.results)

@@ -7,7 +7,7 @@ from pathlib import Path
 from typing import Any, Optional, Sequence
 
 from hydroplan.errors import HydroplanError
-from hydroplan.report.names import shown_name
+from hydroplan.report.folder import shown_name
 
 from .pivots import COLUMN_NUMBERS, WHAT, Choice, wide_table
 

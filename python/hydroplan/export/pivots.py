@@ -5,8 +5,7 @@ import os
 from pathlib import Path
 from typing import Any, List, NamedTuple, Optional, Union
 
-from hydroplan.report.errors import ReportError
-from hydroplan.report.folder import QUANTILES, Results
+from hydroplan.report.folder import QUANTILES, ReportError, Results
 from hydroplan.tables import package
 
 STORAGE, GENERATION, PRICES = WHAT = ("storage", "generation", "prices")

@@ -11,8 +11,7 @@ from typing import Union
 
 from hydroplan.tables import package
 
-from .errors import ReportError
-from .folder import Results
+from .folder import ReportError, Results
 from .page import page_text
 from .shown_study import ShownStudy
 

@@ -9,7 +9,7 @@ from typing import Optional, Sequence
 from hydroplan.errors import HydroplanError
 
 from . import write
-from .names import shown_name
+from .folder import shown_name
 
 DESCRIPTION = """Writes report.html into a folder of results that `study` left: one page of pictures and tables, without a network. It says of
 each number whether it is certified or only estimated."""

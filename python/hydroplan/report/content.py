@@ -4,7 +4,7 @@ from __future__ import annotations
 from dataclasses import dataclass, field
 from typing import List, Sequence, Tuple, Union
 
-from .shapes import Drawing
+from .drawing import Drawing
 
 CERTIFIED, ESTIMATED, GIVEN, BOTH = "certified", "estimated", "given", "both"
 

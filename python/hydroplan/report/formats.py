@@ -5,7 +5,7 @@ import math
 from dataclasses import dataclass
 from typing import Iterable, List, Optional
 
-from .study_summary import Units
+from .folder import Units
 
 FIGURES = 4
 MOST_DECIMALS = 6

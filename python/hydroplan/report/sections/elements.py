@@ -4,10 +4,9 @@ from __future__ import annotations
 from typing import List, Optional, Sequence
 
 from ..content import ESTIMATED, GIVEN, Block, Column, Section, Table, word_column
-from ..decisions import MISSING, OF_ENERGY
+from ..shown_study import MISSING, OF_ENERGY, ShownStudy
 from ..formats import decimals_for, number
-from ..shown_study import ShownStudy
-from ..study_summary import Element
+from ..folder import Element
 
 OF_MOMENTS = ("volume", "stored")
 LEFT_OUT = ("deficit", "outflow")

@@ -1,15 +1,16 @@
-"""Bars and blocks: what comes from where by date, how costs lie, what dry years cost, and shares by date."""
+"""The drawings of the page: bars, blocks and shares by date, lines over iterations, volumes or dates, and fans of quantiles."""
 from __future__ import annotations
 
 import math
 from collections import Counter
 from dataclasses import dataclass
-from typing import List, Optional, Sequence, Tuple
+from typing import Any, List, Optional, Sequence, Tuple
 
-from .axes import Plot, Scale, draw_dates, draw_numbers, draw_upward, plot, round_step, span
 from .content import Key
-from .fans import HEIGHT, TALL, WIDE, WIDTH
-from .shapes import Area, Box, Drawing, Line, Shape, Text, between, points_text
+from .drawing import (
+    Area, Box, Dot, Drawing, Line, Plot, Point, Scale, Shape, Text, between, draw_dates, draw_numbers, draw_upward, plot, points_text, round_step,
+    span, without_peaks,
+)
 
 MOST_BARS = 40
 ROW_HEIGHT, HEAT_LEFT, HEAT_TOP, HEAT_BOTTOM = 24.0, 128.0, 8.0, 40.0
@@ -161,3 +162,151 @@ def _cell(x: Scale, top: float, edge: Tuple[float, float], value: float) -> List
 def _shortened(name: str) -> str:
     return name if len(name) <= LONGEST_NAME else name[: LONGEST_NAME - 1] + "…"
 
+
+HALF = 540.0
+LINE_LOOKS = ("line-1", "line-2", "line-3", "line-4", "line-5")
+
+
+@dataclass(frozen=True)
+class Curve:
+    """A line through points, with its look and a word at its end."""
+
+    look: str
+    xs: Sequence[float]
+    ys: Sequence[Optional[float]]
+    word: str = ""
+
+
+@dataclass(frozen=True)
+class Convergence:
+    """Bounds by iteration, and where scenarios were simulated also the mean of their costs with half of its interval."""
+
+    iterations: Sequence[float]
+    bounds: Sequence[float]
+    simulated: Sequence[Tuple[float, float, float]]
+    final: Optional[Tuple[float, float]]
+
+
+def draw_curves(title: str, units: Tuple[str, str], curves: Sequence[Curve], words: str) -> Drawing:
+    """Curves over numbers; the units are those upwards and to the right."""
+    drawing = Drawing(WIDTH, HEIGHT + 14, title, words)
+    xs = [it for curve in curves for it in curve.xs]
+    low, high = min(xs), max(xs)
+    made = plot(drawing, (low, high if high > low else low + 1), span(without_peaks(it for curve in curves for it in curve.ys)))
+    draw_upward(made, units[0])
+    draw_numbers(made, units[1])
+    _add_curves(made, curves)
+    return drawing
+
+
+def draw_over_dates(title: str, unit: str, curves: Sequence[Curve], dates: Tuple[float, float], words: str) -> Drawing:
+    """Curves over dates (ordinals)."""
+    drawing = Drawing(WIDTH, HEIGHT, title, words)
+    made = plot(drawing, dates, span(without_peaks(it for curve in curves for it in curve.ys)))
+    draw_upward(made, unit)
+    draw_dates(made)
+    _add_curves(made, curves)
+    return drawing
+
+
+def _add_curves(made: Plot, curves: Sequence[Curve]) -> None:
+    for curve in curves:
+        points = made.points(curve.xs, curve.ys)
+        made.drawing.add(Line(points_text(points), curve.look, curve.word))
+        if curve.word and points:
+            made.drawing.add(Text(points[0][0] + 4, points[0][1] - 4, curve.word, "start", f"word {curve.look}-word"))
+
+
+def draw_convergence(run: Convergence, unit: str, words: str) -> List[Drawing]:
+    """The whole way of the bound, and its end, where the bound moves least, as a drawing of its own."""
+    whole = _convergence(run, unit, "All iterations", words, 0)
+    start = _where_it_converges(run)
+    return [whole] if not start else [whole, _convergence(run, unit, f"From iteration {run.iterations[start]:.0f} on", words, start)]
+
+
+def _where_it_converges(run: Convergence) -> int:
+    """The place from which on the bound lies within the last twentieth of its way; 0 where that is the beginning."""
+    first, last = run.bounds[0], run.bounds[-1]
+    near = [place for place, it in enumerate(run.bounds) if it >= last - 0.05 * (last - first)]
+    return near[0] if near and len(run.bounds) - near[0] > 2 else 0
+
+
+def _convergence(run: Convergence, unit: str, title: str, words: str, start: int) -> Drawing:
+    drawing = Drawing(HALF, HEIGHT + 30, title, words)
+    xs, bounds = run.iterations[start:], run.bounds[start:]
+    simulated = [it for it in run.simulated if it[0] >= xs[0]]
+    ends = [mean + side * half for _, mean, half in simulated for side in (-1, 1)]
+    final = [] if run.final is None else [run.final[0] - run.final[1], run.final[0] + run.final[1]]
+    made = plot(drawing, (xs[0], xs[-1]), span([*bounds, *ends, *final], with_zero=False))
+    draw_upward(made, unit)
+    draw_numbers(made, "iteration")
+    if final:
+        _add_band(made, final, run.final[0] if run.final else 0)
+    _add_simulated(made, simulated)
+    steps = [point for (x, y), (further, _) in zip(zip(xs, bounds), zip([*xs[1:], xs[-1]], bounds)) for point in ((x, y), (further, y))]
+    drawing.add(Line(points_text([(made.x(x), made.y(y)) for x, y in steps]), "certified-line"))
+    return drawing
+
+
+def _add_band(made: Plot, ends: Sequence[float], mean: float) -> None:
+    """The interval of the mean of the scenarios at the end, over the whole width."""
+    sides = (made.x.start, made.x.end)
+    above, below = ([(x, made.y(end)) for x in sides] for end in (ends[1], ends[0]))
+    made.drawing.add(Area(between(above, below), "estimate-band"), Line(points_text([(x, made.y(mean)) for x in sides]), "estimate-line"))
+
+
+def _add_simulated(made: Plot, simulated: Sequence[Tuple[float, float, float]]) -> None:
+    for x, mean, half in simulated:
+        ends = [(made.x(x), made.y(mean - half)), (made.x(x), made.y(mean + half))]
+        made.drawing.add(Line(points_text(ends), "estimate-bar"), Dot(made.x(x), made.y(mean), "estimate-dot"))
+
+
+BANDS = (("p05", "p95", "band-1"), ("p10", "p90", "band-2"), ("p25", "p75", "band-3"))
+FAN_KEYS = (
+    Key("band-1", "9 of 10 scenarios (5 to 95 %)"), Key("band-2", "8 of 10 (10 to 90 %)"), Key("band-3", "half (25 to 75 %)"),
+    Key("median", "median", "line"), Key("extreme", "least and greatest", "line"),
+)
+CUT_OFF = "What stands far above nine tenths of the numbers is cut off at the upper edge."
+LIMIT_KEY = Key("limit", "least and greatest volume allowed (given)", "line")
+WIDTH, HEIGHT = 400.0, 216.0
+WIDE, TALL = 1080.0, 310.0
+
+
+@dataclass(frozen=True)
+class Fan:
+    """Quantiles of one thing: `rows` is a mapping (or table) from `p05`, `p50`, .. to numbers in the order of the stages.
+
+    `edges` has the first and last day of each stage, as ordinals; at the same day twice where a number is of that moment. `limits`
+    are further lines with their look.
+    """
+
+    title: str
+    unit: str
+    edges: Sequence[Tuple[float, float]]
+    rows: Any
+    limits: Sequence[Tuple[str, Sequence[Optional[float]]]] = ()
+
+
+def draw_fan(fan: Fan, dates: Tuple[float, float], words: str, is_wide: bool = False) -> Drawing:
+    """The fan over these dates (ordinals); `words` tell it to whoever does not see it."""
+    drawing = Drawing(*((WIDE, TALL) if is_wide else (WIDTH, HEIGHT)), fan.title, words)
+    within = [it for which in ("p05", "p95") for it in _numbers(fan.rows[which])]
+    outside = without_peaks([*within, *(it for which in ("least", "greatest") for it in _numbers(fan.rows[which]))])
+    made = plot(drawing, dates, span([*without_peaks(within), *outside, *(it for _, line in fan.limits for it in line)]))
+    draw_upward(made, fan.unit)
+    for low, high, look in BANDS:
+        above, below = (made.steps(fan.edges, _numbers(fan.rows[it])) for it in (high, low))
+        drawing.add(Area(between(_once(above), _once(below)), look))
+    lines = [*(("extreme", _numbers(fan.rows[it])) for it in ("least", "greatest")), *fan.limits, ("median", _numbers(fan.rows["p50"]))]
+    drawing.add(*(Line(points_text(_once(made.steps(fan.edges, line))), look) for look, line in lines))
+    draw_dates(made)
+    return drawing
+
+
+def _once(points: Sequence[Point]) -> List[Point]:
+    """The points without those that repeat the one before."""
+    return [it for it, before in zip(points, [None, *points]) if it != before]
+
+
+def _numbers(column: Any) -> List[float]:
+    return [float(it) for it in column]
