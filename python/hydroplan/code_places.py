@@ -10,7 +10,7 @@ from functools import lru_cache
 from types import FrameType
 from typing import Iterator, Optional
 
-from .tools.cursor import Refused
+from .tools.located_json import Refused
 
 PACKAGE = os.path.dirname(os.path.abspath(__file__))
 

@@ -11,9 +11,8 @@ from .errors import (
     ProblemUnreadable, ProgramKilled, ProgramNotRun, RunFailed, TooMuch, WordsRefused,
 )
 from .programs import Compiled
-from .tools.cursor import Cursor, Refused
+from .tools.located_json import Cursor, Refused, byte_order, parse
 from .tools.explain_command import NO_STAGE, explain_line
-from .tools.located_json import byte_order, parse
 from .tools.places import Refusal, locate, read_refusal
 from .tools.profile import SCALE
 from .tools.status_lines import IN_WORDS

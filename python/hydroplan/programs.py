@@ -13,14 +13,11 @@ from typing import Dict, List, Mapping, Optional, Tuple, Union
 from .errors import ModelError, ModelRefused
 from .exact import Number, exact, text_of
 from .stochopt_writer import stochopt_text
-from .tools.compiling import Options, compile_model, ledger_lines, problem_text
-from .tools.converting import Bounds
-from .tools.cursor import Cursor, Refused
+from .tools.converting import Bounds, Options, compile_model, ledger_lines, problem_text
+from .tools.located_json import Cursor, NotJson, Refused, byte_order, parse
 from .tools.likeness import unknown_word
-from .tools.located_json import NotJson, byte_order, parse
-from .tools.model import Model as SharedModel, Quantity
+from .tools.stochopt import Model as SharedModel, Quantity, read_model
 from .tools.scales import Scales, SubproblemScales, write_scales
-from .tools.stochopt import read_model
 
 Resolution = Union[Number, Mapping[str, Number], None]
 Sides = Tuple[Optional[Number], Optional[Number]]

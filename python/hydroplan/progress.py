@@ -7,7 +7,7 @@ from dataclasses import dataclass
 from pathlib import Path
 from typing import Callable, List, Optional, TextIO, Union
 
-from .tools.watching import clock_text, run_check
+from .tools.watch_command import clock_text, run_check
 
 from .results import GapCheck
 

@@ -9,7 +9,7 @@ from .errors import ModelError, Unbounded
 from .exact import text_of
 from .expressions import Expression, Variable
 from .stages import Constraint, Stage
-from .tools import model as shared
+from .tools import stochopt as shared
 from .tools.likeness import unknown_word
 from .tools.located_json import byte_order
 from .tools.stochopt import find_cycle

@@ -4,7 +4,7 @@ from __future__ import annotations
 import json
 from typing import Any, Dict, List
 
-from .tools.model import Constraint, Function, Model, Node, Quantity, Realization, Step, Subproblem
+from .tools.stochopt import Constraint, Function, Model, Node, Quantity, Realization, Step, Subproblem
 from .tools.profile import SETS
 
 MATHOPT_VERSION = {"major": 1, "minor": 2}

@@ -11,7 +11,7 @@ from model_support import Folder, newsvendor, one_reservoir, three_stages
 from random_models import Draw
 from hydroplan.errors import ModelError, ModelRefused, Unbounded
 from hydroplan.model import Model, read_stochopt
-from hydroplan.tools.compiling import problem_text
+from hydroplan.tools.converting import problem_text
 from hydroplan.tools.convert_command import main as convert
 from hydroplan.tools.scales import write_scales
 

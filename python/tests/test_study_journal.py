@@ -9,8 +9,8 @@ from study_support import StudyFolder
 from extensive_plants import needs_scipy
 from hydroplan.errors import TrainingInterrupted
 from hydroplan.runs import WordsRefused, train
-from hydroplan.study import command, study_training
-from hydroplan.study.kept_journal import History
+from hydroplan.study import command, training
+from hydroplan.study.training import History
 from hydroplan.training import TrainingRun
 
 GOING_ON = "study: going on from the journal\n"
@@ -118,10 +118,10 @@ class Again(StudyFolder):
 
     def test_an_interrupt(self):
         stopped = TrainingInterrupted("training was interrupted: 3 iterations are kept", 3, 1.0)
-        with mock.patch.object(study_training, "train", side_effect=stopped):
+        with mock.patch.object(training, "train", side_effect=stopped):
             status, _, errors = self.run_study()
         self.assertEqual((status, errors.split("\n")[1]), (130, "study: training was interrupted: 3 iterations are kept"))
-        with mock.patch.object(study_training, "train", side_effect=KeyboardInterrupt):
+        with mock.patch.object(training, "train", side_effect=KeyboardInterrupt):
             self.assertEqual(self.run_study()[0], 130)
 
     def test_a_page_is_made_where_dates_rise(self):
@@ -140,7 +140,7 @@ class Again(StudyFolder):
 
     def test_workers(self):
         workers = ("--set", "training.workers=2", "--set", 'training.scheduler="tcp://here:1"')
-        with mock.patch.object(study_training, "_shares", return_value=False):
+        with mock.patch.object(training, "_shares", return_value=False):
             self.assertIn("study: training by one program: hydroplan.farm, which shares the work, is not there\n", self.said(*workers))
         asked = []
 
@@ -148,7 +148,7 @@ class Again(StudyFolder):
             asked.append(shared)
             return train(compiled, journal, **chosen)
 
-        with mock.patch.object(study_training, "_shares", return_value=True), mock.patch.object(study_training, "train", trained):
+        with mock.patch.object(training, "_shares", return_value=True), mock.patch.object(training, "train", trained):
             self.assertNotIn("hydroplan.farm", self.said(*workers))
         self.assertEqual(asked, [["--workers", "2", "--scheduler", "tcp://here:1"]])
 

@@ -5,7 +5,7 @@ from unittest import mock
 from model_support import needs_numpy
 from study_support import LAKE, StudyFolder
 from hydroplan.study import StudyError
-from hydroplan.study.toml_lines import lines_of
+from hydroplan.study.document import lines_of
 
 CITY, DEMAND, GAS, BLOCKS = "[bus.city]", "demand = 150", "[thermal.gas]", "[blocks]\npeak = 0.25\nbase = \"rest\"\n\n[bus.city]"
 LISTED = 'method = "listed"\noutcomes = [{ lake = 0 }, { lake = 50 }, { lake = 100 }]'

@@ -7,10 +7,9 @@ from unittest import mock
 from model_support import Folder, needs_numpy, one_reservoir, three_stages
 from hydroplan import simulate, train
 from hydroplan.core import find_program, run
-from hydroplan.study import report_stream
-from hydroplan.study.csv_rows import ResultFile, csv_line, plain, write_rows
-from hydroplan.study.report_stream import ReportStream
-from hydroplan.study.simulating import parts_of
+from hydroplan.study import simulating
+from hydroplan.study.exporting import ResultFile, csv_line, plain, write_rows
+from hydroplan.study.simulating import ReportStream, parts_of
 
 
 @needs_numpy
@@ -42,7 +41,7 @@ class Streams(Folder):
         self.same(three_stages("0.37", "1.3").compile())
 
     def test_pieces_of_any_length(self):
-        with mock.patch.object(report_stream, "PIECE", 7):
+        with mock.patch.object(simulating, "PIECE", 7):
             self.same(one_reservoir().compile())
 
     def test_no_scenarios(self):

@@ -2,11 +2,10 @@
 import unittest
 from fractions import Fraction as F
 
-from hydroplan.tools.cursor import Refused
-from hydroplan.tools.decimals import Direction, decimal_text, last_digit, simplest_between, whole
-from hydroplan.tools.model import Quantity
+from hydroplan.tools.located_json import Refused
+from hydroplan.tools.decimals import Direction, decimal_text, full_weights, last_digit, simplest_between, stopping_weights, whole
+from hydroplan.tools.stochopt import Quantity
 from hydroplan.tools.profile import MOST_WEIGHT
-from hydroplan.tools.weights import full_weights, stopping_weights
 
 
 def given(*texts):

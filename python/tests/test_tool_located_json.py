@@ -4,8 +4,7 @@ import unittest
 from fractions import Fraction
 
 from tool_support import EXAMPLES, cursor
-from hydroplan.tools.cursor import Refused
-from hydroplan.tools.located_json import NotJson, NumberText, parse, path_text
+from hydroplan.tools.located_json import NotJson, NumberText, Refused, parse, path_text
 
 
 def plain(value):

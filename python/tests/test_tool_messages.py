@@ -11,10 +11,9 @@ from unittest import mock
 from tool_support import DATA, EXAMPLES, S, cursor, run
 from hydroplan.tools import convert_command, explain_command, plot_command
 from hydroplan.tools.before_training import NO_COPY
-from hydroplan.tools.cursor import Refused
+from hydroplan.tools.located_json import NotJson, Refused, parse
 from hydroplan.tools.explain_command import explain
 from hydroplan.tools.limits import extent_of
-from hydroplan.tools.located_json import NotJson, parse
 from hydroplan.tools.scales import Scales
 from hydroplan.tools.too_much import lines_on, of_policy, of_training
 

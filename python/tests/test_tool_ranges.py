@@ -4,12 +4,11 @@ import unittest
 from fractions import Fraction as F
 
 from tool_support import cursor
-from hydroplan.tools.compiling import Options, compile_model, ledger_lines
-from hydroplan.tools.converting import Bounds
-from hydroplan.tools.cursor import Refused
+from hydroplan.tools.converting import Bounds, Options, compile_model, ledger_lines
+from hydroplan.tools.located_json import Refused
 from hydroplan.tools.scales import Scales, SubproblemScales
 from hydroplan.tools.stochopt import read_model
-from hydroplan.tools.weights import finer
+from hydroplan.tools.decimals import finer
 
 
 def file_of(coefficient, upper, probabilities=("1",), alternatives=(), other=7):

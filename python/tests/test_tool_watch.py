@@ -8,8 +8,7 @@ from fractions import Fraction as F
 from pathlib import Path
 
 from tool_support import S, run
-from hydroplan.tools.watch_command import main
-from hydroplan.tools.watching import HEADING, Look, Units, Watch, clock_text, read_check, rows
+from hydroplan.tools.watch_command import HEADING, Look, Units, Watch, clock_text, main, read_check, rows
 
 # prints a check of as many iterations as the journal has bytes, iteration k with the bound k / 2; a journal that begins with x is refused
 PROGRAM = f"""#!{sys.executable}

@@ -8,8 +8,7 @@ from typing import Callable, Sequence
 from unittest import mock
 
 from model_support import TOP as REPOSITORY
-from hydroplan.tools.cursor import Cursor
-from hydroplan.tools.located_json import parse
+from hydroplan.tools.located_json import Cursor, parse
 
 DATA = Path(__file__).parent / "data"
 EXAMPLES = REPOSITORY / "examples"

@@ -6,7 +6,7 @@ from contextlib import ExitStack
 from dataclasses import dataclass
 from itertools import count, islice, zip_longest
 from pathlib import Path
-from typing import BinaryIO, Iterator, List, Optional, Sequence, Tuple
+from typing import BinaryIO, Iterator, Optional, Sequence, Tuple
 
 from .errors import FarmError, RecordFault
 from .journals import DEVICE_FAILED, Head, framed, opened, payloads, read_head, refused

@@ -4,9 +4,9 @@
 `hydroplan study`. All of it stands outside the proved core.
 """
 from .command import main
-from .errors import StudyError
+from .document import StudyError
 from .results_folder import write_results
 from .study import Study, read_study
-from .study_training import train_study
+from .training import train_study
 
 __all__ = ["Study", "StudyError", "main", "read_study", "train_study", "write_results"]

@@ -16,11 +16,9 @@ from ..errors import HydroplanError, NoStageSolution, TrainingInterrupted
 from ..limits import sizes
 from ..plants.elements import Element
 from ..tables import package
-from .dead_ends import dead_end
-from .kept_journal import KeptJournal
+from .training import KeptJournal, dead_end, train_study
 from .results_folder import RESULTS, write_results
 from .study import Study, read_study
-from .study_training import train_study
 
 DESCRIPTION = """Reads FOLDER/study.toml and the CSV files that it names, trains on FOLDER/study.journal until a rule of the study says to stop,
 simulates, and writes FOLDER/results. Run again after a change of options alone, it goes on from the journal; after a change of data it begins

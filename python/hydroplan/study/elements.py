@@ -12,10 +12,8 @@ from ..errors import ModelError
 from ..exact import is_number
 from ..plants import Battery, Bus, Export, Import, Line, Pump, Renewable, Reservoir, System, Thermal, Way
 from ..plants.elements import Element
-from .csv_files import CsvFile, CsvFiles
-from .document import Document, Table, shown
-from .errors import StudyError
-from .numbers import NumberReader
+from .numbers import CsvFile, CsvFiles, NumberReader
+from .document import Document, StudyError, Table, shown
 
 ELEMENTS: Tuple[Type[Element], ...] = (Bus, Reservoir, Thermal, Line, Renewable, Import, Export, Pump, Battery)
 KINDS: Dict[str, Type[Element]] = {it.KIND: it for it in ELEMENTS}

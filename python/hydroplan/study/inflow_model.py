@@ -15,10 +15,8 @@ from ..inflows import (
 from ..inflows.records import LEAVE_OUT, REFUSE, UNITS, VOLUME
 from ..plants.amounts import suggestion
 from ..plants.system import Outcome
-from .csv_files import CsvFiles
-from .document import Table, shown
-from .errors import StudyError
-from .numbers import NumberReader
+from .numbers import CsvFiles, NumberReader
+from .document import StudyError, Table, shown
 from .stage_calendar import OWN, StageCalendar
 
 YEARS, GROUPS, CLASSES, AUTOREGRESSION, LISTED, NONE = "years", "groups", "classes", "autoregression", "listed", "none"

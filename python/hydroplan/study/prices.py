@@ -1,22 +1,91 @@
-"""Marginal costs of energy: estimates, by a linear program for a stage of a simulated scenario.
+"""What water and energy are worth: water by the cuts that `check` made anew, energy by a linear program for a stage of a scenario.
 
-The program is that of the model's stage at the simulated state and random values, with the certified cuts as the cost of what comes after. Its
-rows of energy have dual values, which HiGHS finds (Huangfu and Hall 2018, by scipy). Where several duals are optimal, one of them is taken.
+The program is that of the model's stage at the simulated state and random values, with the certified cuts as the cost of what comes after.
+Its rows of energy have dual values, which HiGHS finds (Huangfu and Hall 2018, by scipy). Where several duals are optimal, one is taken.
 """
 from __future__ import annotations
 
 import importlib
 from dataclasses import dataclass
-from typing import Any, Dict, List, Mapping, Optional, Tuple
+from typing import Any, Dict, Iterator, List, Mapping, Optional, Tuple
 
 from ..expressions import Variable
 from ..graphs import GraphNode
-from ..plants import Bus
+from ..plants import Bus, Reservoir
+from ..programs import Compiled
+from ..results import Check, Cut
 from ..stages import Constraint, Stage
 from ..tables import package
-from .cut_arrays import NodeCuts
 from .exporting import Sampled, Scenarios
 from .study import Study
+
+
+@dataclass(frozen=True)
+class NodeCuts:
+    """The cuts of a node: at the incoming states x they are `intercepts + slopes @ x`, in money; states are in the order of the problem."""
+
+    intercepts: Any
+    slopes: Any
+
+    def values(self, states: Any) -> Any:
+        """Each cut's value at incoming states."""
+        return self.intercepts + self.slopes @ states
+
+
+def cuts_by_node(compiled: Compiled, check: Check) -> Dict[str, NodeCuts]:
+    """The cuts of each node that has some."""
+    numpy = package("numpy")
+    by_node: Dict[str, List[Cut]] = {}
+    for cut in check.cuts:
+        by_node.setdefault(cut.node, []).append(cut)
+    found = {}
+    for node, cuts in by_node.items():
+        slopes = numpy.array([[it.slopes[name] for name in compiled.state_names] for it in cuts]).reshape(len(cuts), -1)
+        found[node] = NodeCuts(numpy.array([it.intercept for it in cuts]), slopes)
+    return found
+
+
+WATER_VALUES = ("stage", "node", "reservoir", "volume", "value")
+Row = Tuple[int, str, str, float, float]
+
+
+def water_values(study: Study, cuts: Dict[str, NodeCuts], kept: Scenarios) -> Iterator[Row]:
+    """A row for each volume of each reservoir before each node: money per hm3 by the cut that bounds best, undiscounted.
+
+    All other states are at the median of the simulated ones: those that came to the node, or to its stage where none did.
+    """
+    for node in study.system.graph().nodes:
+        if node.name in cuts:
+            yield from _of_node(study, node, cuts[node.name], kept)
+
+
+def _of_node(study: Study, node: GraphNode, cuts: NodeCuts, kept: Scenarios) -> Iterator[Row]:
+    """The rows of a node."""
+    numpy = package("numpy")
+    median, before = _median(study, node, kept), max(1, node.stage - 1)
+    discount = float(study.system.discount(node.stage))
+    for it, numbers in study.system.of_kind(Reservoir):
+        grid = numpy.linspace(*(float(numbers.at(member, before)) for member in ("minimum", "maximum")), study.options.simulation.points)
+        values = _values(cuts, median, kept.state_names.index(f"volume:{it.name}"), grid)
+        yield from ((node.stage, node.name, it.name, float(volume), value / discount) for volume, value in zip(grid, values))
+
+
+def _median(study: Study, node: GraphNode, kept: Scenarios) -> Any:
+    """The median of each state before a node."""
+    states = kept.states[:, node.stage - 1]
+    here = states[kept.nodes[:, node.stage - 1] == list(study.compiled.node_names).index(node.name)]
+    return package("numpy").median(here if len(here) else states, axis=0)
+
+
+def _values(cuts: NodeCuts, median: Any, at: int, grid: Any) -> List[float]:
+    """The value of a unit of one state over a grid."""
+    found = []
+    for volume in grid:
+        point = median.copy()
+        point[at] = volume
+        found.append(0.0 - float(cuts.slopes[cuts.values(point).argmax(), at]))
+    return found
+
 
 MOST_CUTS = 60
 DECIDED = ("decision", "outgoing")

@@ -8,8 +8,7 @@ from fractions import Fraction
 from typing import Any, Dict, List, Optional, Tuple
 
 from ..exact import exact, is_number
-from .document import Table, shown
-from .errors import StudyError
+from .document import StudyError, Table, shown
 
 MONTH, WEEK, OWN = "month", "week", "own"
 STEPS = (MONTH, WEEK)

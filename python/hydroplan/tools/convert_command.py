@@ -12,15 +12,12 @@ from pathlib import Path
 from typing import Any, Callable, Optional, Sequence, TextIO, TypeVar
 
 from .back import BadReport, Back
-from .compiling import Options, compile_model, ledger_lines, problem_text
-from .converting import Bounds, Ledger
-from .cursor import Cursor, Refused
-from .located_json import NotJson, parse
-from .model import Quantity, quantity
+from .converting import Bounds, Ledger, Options, compile_model, ledger_lines, problem_text
+from .located_json import Cursor, NotJson, Refused, parse
+from .stochopt import Quantity, quantity, read_model
 from .profile import MOST_FILE_BYTES
 from .scales import Scales, read_scales, write_scales
 from .shown_names import shown_name
-from .stochopt import read_model
 from .waiting import in_words, standard_input
 
 Read = TypeVar("Read")

@@ -11,9 +11,8 @@ from fractions import Fraction
 from pathlib import Path
 from typing import Iterable, Optional, Sequence
 
-from .cursor import Cursor, Refused
+from .located_json import Cursor, NotJson, Refused, parse, path_text
 from .decimals import decimal_text
-from .located_json import NotJson, parse, path_text
 from .misspellings import random_names, warnings
 from .places import MEANINGS, Refusal, culprit, descend, key_at, locate, node_path, read_refusal, rows_of, states_of
 from .plants import MEANINGS as HYDRO_MEANINGS, Place, first_fault, place_of

@@ -9,7 +9,7 @@ from __future__ import annotations
 from dataclasses import dataclass
 from typing import Iterator, Optional
 
-from .cursor import Cursor
+from .located_json import Cursor
 from .likeness import nearest
 from .plants import MEMBERS, STAGES, TABLES, is_description, names_of
 from .profile import SETS

@@ -8,7 +8,7 @@ import re
 from dataclasses import dataclass
 from typing import NoReturn, Optional, Union
 
-from .cursor import Cursor
+from .located_json import Cursor
 from .likeness import unknown_word
 
 MOST = 1 << 20

@@ -11,15 +11,14 @@ from pathlib import Path
 from typing import Any, Callable, Iterator, Optional, Sequence
 
 from .back import BadReport
-from .cursor import Cursor, Refused
+from .located_json import Cursor, NotJson, Refused, parse
 from .decimals import decimal_text
-from .located_json import NotJson, parse
 from .reports import Report, read_file
 from .shown_names import shown_name
 from .series import (
-    SHARES, Fan, Point, PolicyCost, Series, policy_cost, residuals, same_units, stages_of, storage, water_values_along, water_values_at,
+    Fan, Point, PolicyCost, SHARES, Series, is_results, policy_cost, read_results, residuals, same_units, stages_of, storage, water_values_along,
+    water_values_at,
 )
-from .study_results import is_results, read_results
 from .waiting import in_words
 
 # makes a figure by the module `drawing`, which is imported where one is drawn

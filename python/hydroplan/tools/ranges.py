@@ -11,7 +11,7 @@ from fractions import Fraction
 from typing import Iterator
 
 from .decimals import decimal_text
-from .model import Model
+from .stochopt import Model
 from .scales import CLOSE, Scales, SubproblemScales, bounds_of, complete, numbers_of_state, numbers_of_variable, rows_of
 
 SPREAD = 10**5

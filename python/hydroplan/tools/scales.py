@@ -13,9 +13,9 @@ from dataclasses import dataclass, field
 from fractions import Fraction
 from typing import Iterable, Iterator, Optional
 
-from .cursor import Cursor
+from .located_json import Cursor
 from .decimals import simplest_between
-from .model import Constraint, Model, Quantity, Subproblem
+from .stochopt import Constraint, Model, Quantity, Subproblem
 
 CLOSE = Fraction(1, 10**9)
 SAME = Fraction(1, 10**40)
