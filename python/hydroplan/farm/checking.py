@@ -15,6 +15,7 @@ from pathlib import Path
 from typing import BinaryIO, List, NamedTuple, Optional
 
 from .errors import FarmError
+from .new_files import created, drawn_name
 from .program import command
 
 REFUSED = re.compile(r"journal refused: Bad(?:Record|Certificate|Length) iteration (\d+)")
@@ -140,8 +141,8 @@ def _be_nicer(process: int) -> None:
 
 def _unnamed(beside: Path) -> BinaryIO:
     """A new file in the folder of another, without a name."""
-    place = beside.with_name(f"{beside.name}.said-{os.getpid()}")
-    file = place.open("w+b")
+    place = beside.with_name(drawn_name(f"{beside.name}.said-"))
+    file = created(place)
     place.unlink()
     return file
 

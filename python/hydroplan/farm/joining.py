@@ -10,6 +10,7 @@ from typing import BinaryIO, Iterator, Optional, Sequence, Tuple
 
 from .errors import FarmError, RecordFault
 from .journals import DEVICE_FAILED, Head, framed, opened, payloads, read_head, refused
+from .new_files import in_the_place_of
 from .records import Mover, base_pools, entries
 from .shape import Shape, require_room
 
@@ -152,17 +153,11 @@ def _packed(pieces: Iterator[bytes], size: int) -> Iterator[bytes]:
 
 def _write_new(target: Path, head: Head, records: Iterator[bytes]) -> None:
     """Writes a journal under another name, which it changes when all of it is on the disk."""
-    made = target.with_name(f"{target.name}.new-{os.getpid()}")
     try:
-        with made.open("xb") as file:
+        with in_the_place_of(target) as file:
             file.write(head.bytes())
             for payload in records:
                 file.write(b"\x01" + framed(payload))
             file.write(b"\x00")
-            file.flush()
-            os.fsync(file.fileno())
-        os.rename(made, target)
     except OSError as fault:
         raise FarmError(f"journal {target}: {fault.strerror}", DEVICE_FAILED) from None
-    finally:
-        made.unlink(missing_ok=True)

@@ -17,6 +17,7 @@ from .joined import Front, PartFault, in_turns
 from .joiner import Ended, Joiner
 from .journals import Growing
 from .living import MOST_JOINED
+from .rooms import PROBLEM
 from .shape import Shape
 from .told import Tell, Told
 from .worker_joiner import Gone, WorkerJoiner
@@ -278,7 +279,7 @@ class Proving:
 
     def _begin_check(self, taking: str) -> None:
         """Begins a check of all that was joined, and of what is joined before it comes to the end."""
-        self._checking = Checking(self._job.program, self._scratch.path, self._scratch.path.with_name("problem.json"), taking)
+        self._checking = Checking(self._job.program, self._scratch.path, self._scratch.path.with_name(PROBLEM), taking)
 
     def _take_verdict(self) -> None:
         """Waits for the check and puts what it proved into the journal."""

@@ -2,10 +2,10 @@
 from __future__ import annotations
 
 import time
-from contextlib import closing, contextmanager
+from contextlib import closing
 from functools import cached_property
 from pathlib import Path
-from typing import Callable, Iterator, List, Optional, Union
+from typing import Callable, List, Optional, Union
 
 from ..core import Place, Running, find_program
 from .asking import Asking
@@ -16,9 +16,11 @@ from .errors import FarmError, RecordFault
 from .joined import Front, front_of
 from .journals import Growing, refused
 from .local_engine import LocalEngine
+from .new_files import created
 from .plan import Plan
 from .program import Begun, built_program, built_worker, command
 from .proving import Job, Proving, Round
+from .rooms import JOURNAL, PROBLEM, room_beside
 from .shape import Shape, require_room, shape_of
 from .training import FarmTraining
 
@@ -91,48 +93,23 @@ def train(words: Words, problem: bytes, say: Callable[[str], None], engine_from:
     program = built_program(words.program)
     with closing(AtWork(words, engine_from)) as at_work:
         shape = _prepared(words, problem, program, at_work)
-        with Growing(words.journal) as journal, _room_beside(words.journal) as room:
+        with Growing(words.journal) as journal, room_beside(words.journal, say) as room:
             head, front = journal.head(), _front(words, shape, journal)
-            (room / "problem.json").write_bytes(problem)
-            _copy(words.journal, room / "journal")
-            with Growing(room / "journal", is_synced=False) as scratch:
+            with created(room / PROBLEM) as file:
+                file.write(problem)
+            _copy(words.journal, room / JOURNAL)
+            with Growing(room / JOURNAL, is_synced=False) as scratch:
                 scratch.cut(front.records, front.end)
                 plan = Plan(words.journal, shape.digest)
                 job = Job(problem, shape, program, built_worker(program), head.seed, head.batch, words.count, plan.run)
                 training = FarmTraining(job, plan, Proving(job, front, journal, scratch), front.records)
                 verdict = _trained(words, training, at_work, say) if front.records < words.count else None
-                return (verdict or Checking(program, scratch.path, room / "problem.json").verdict()).report
-
-
-@contextmanager
-def _room_beside(journal: Path) -> Iterator[Path]:
-    """A folder for the copy that is checked. One that a killed run left is emptied; the journal's lock keeps others out."""
-    room = journal.resolve().with_name(f"{journal.name}.farm-work")
-    _remove(room)
-    room.mkdir()
-    try:
-        yield room
-    finally:
-        _remove(room)
-
-
-def _remove(room: Path) -> None:
-    """Removes a folder with what is in it, as far as that can be."""
-    try:
-        for file in room.iterdir():
-            file.unlink()
-        room.rmdir()
-    except FileNotFoundError:
-        pass
-    except OSError:
-        import shutil  # takes a while, and is of use where somebody else put something there
-
-        shutil.rmtree(room, ignore_errors=True)
+                return (verdict or Checking(program, scratch.path, room / PROBLEM).verdict()).report
 
 
 def _copy(journal: Path, copy: Path) -> None:
-    """Copies a file."""
-    with journal.open("rb") as source, copy.open("wb") as target:
+    """Copies a file to a new one."""
+    with journal.open("rb") as source, created(copy) as target:
         while target.write(source.read(COPIED_AT_ONCE)):
             pass
 
