@@ -53,6 +53,16 @@ class Installed(unittest.TestCase):
         self.assertEqual(ended.returncode, 0, ended.stderr)
         self.assertEqual(ended.stdout.splitlines()[-1], "bound 139810133266")
 
+    def test_refuses_a_replaced_worker(self):
+        """It is compared with the sum that is installed with it."""
+        worker = next(Path(self.room).glob("venv/lib/**/hydroplan_worker-x86_64-linux"))
+        kept = worker.read_bytes()
+        self.addCleanup(worker.write_bytes, kept)
+        worker.write_bytes(kept[:-1] + b"x")
+        ended = self.run_installed("train", "replaced.journal", "3", "20", "--workers", "2")
+        line = "hydroplan: the program in bin/worker is not the one that bin/worker/SHA256SUMS names, and was not run\n"
+        self.assertEqual((ended.returncode, ended.stdout, ended.stderr), (1, "", line))
+
     def test_tells_of_words(self):
         self.assertTrue(self.run_installed("help", "join").stdout.startswith("join OUT JOURNAL.."))
         self.assertEqual(self.run_installed("explain", "--help").stdout[:14], "usage: explain")

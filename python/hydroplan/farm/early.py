@@ -32,9 +32,9 @@ class Early:
     `written` are the bytes that it took of these.
     """
 
-    def __init__(self, process: Process, problem: bytes, paths: int) -> None:
-        self.process = process
-        self.is_of = (KEPT_WORKER, problem, paths)
+    def __init__(self, program: str, problem: bytes, paths: int) -> None:
+        self.process = Process(command(program, []))
+        self.is_of = (program, problem, paths)
         self.written = 0
         self.first: Optional[Tuple[int, int]] = None
         """The seed and the count of its first order, where it has one."""
@@ -62,20 +62,26 @@ class Begun:
         found = _plain(words)
         if found is None or not _is_plain_here(words[1]):
             return
+        from .summed import OtherSum, compared
+
+        try:
+            program, worker = compared(KEPT), compared(KEPT_WORKER)
+        except (OtherSum, OSError):
+            return  # they are compared again, and refused
         try:
             self.problem = sys.stdin.buffer.read(MOST_PROBLEM + 1)
         except OSError:
             return  # it is read again, and fails again
         if len(self.problem) <= MOST_PROBLEM:
-            self._begin(found, [words[1], words[2], "0", *words[4:5 if "batch" in found else 4]])
+            self._begin(found, program, worker, [words[1], words[2], "0", *words[4:5 if "batch" in found else 4]])
 
-    def _begin(self, found: "dict[str, int]", making: List[str]) -> None:
+    def _begin(self, found: "dict[str, int]", program: str, worker: str, making: List[str]) -> None:
         assert self.problem is not None
         paths, problem = found.get("batch", 1), self.problem
         for _ in range(found["--workers"]):
-            self._workers.append(Early(Process(command(KEPT_WORKER, [])), problem, paths))
+            self._workers.append(Early(worker, problem, paths))
             self._workers[-1].write([paths.to_bytes(2, "big"), len(problem).to_bytes(4, "big"), problem])
-        asked = command(KEPT, ["train", *making])
+        asked = command(program, ["train", *making])
         with unnamed(problem) as source:
             self._making = (asked, problem, Process(asked, source))
         self._order(found)

@@ -16,7 +16,7 @@ from typing import Callable, Dict, Iterable, List, Mapping, Optional, Sequence, 
 from .engine import DONE, RUNNING, Call, Teller
 from .errors import WorkerFault
 from .living import MOST_JOINED, Living
-from .program import built_worker
+from .program import worker_to_run
 from .work import Order, Worker, broken
 
 KEPT_TELLERS = 3
@@ -82,7 +82,7 @@ class LocalEngine:
 
     def ready(self, problem: bytes, paths: int) -> None:
         """As `Engine.ready`."""
-        program = built_worker(self._program)
+        program = worker_to_run(self._program)
         if program is not None and len(self._workers) <= MOST_JOINED:
             begun = [it.ready(program, problem, paths) for it in self._workers.values()]
             until = time.monotonic() + MOST_FEEDING

@@ -10,10 +10,13 @@ from typing import Optional, Sequence
 
 from ..repository import TOP
 from ..core import Ended, Place, find_program
+from ..errors import ProgramMissing
 from .process import Process, command, unnamed
+from .summed import OtherSum, compared, digest_of_copy, is_copy_of
 
 __all__ = [
-    "KEPT_WORKER", "WORKER_VARIABLE", "Begun", "built_program", "built_worker", "command", "digest_of", "is_of_these_sources", "unnamed",
+    "KEPT_WORKER", "WORKER_VARIABLE", "Begun", "built_program", "built_worker", "command", "digest_of", "is_of_these_sources",
+    "program_to_run", "unnamed", "worker_to_run",
 ]
 
 KEPT = TOP / "bin" / "hydroplan-x86_64-linux"
@@ -34,6 +37,33 @@ def built_program(given: Optional[Place] = None) -> Path:
     if given is not None or found != TOP / "hydroplan":
         return found
     return next((it for it in (NEWER, KEPT) if it.is_file() and (it == KEPT or is_of_these_sources(it))), found)
+
+
+def program_to_run(given: Optional[Place] = None) -> Path:
+    """As `built_program`, and from where it runs: of the one in `bin` a copy of the bytes that were compared with the sum beside it.
+
+    ProgramMissing where these are others. One that is given or that was built of the crates at hand has no sum, and runs from its place.
+    """
+    found = built_program(given)
+    return found if given is not None else _to_run(found)
+
+
+def worker_to_run(program: Path) -> Optional[Path]:
+    """As `built_worker`, and from where it runs, as `program_to_run`."""
+    found = built_worker(program)
+    return found if found is None or WORKER_VARIABLE in os.environ else _to_run(found)
+
+
+def _to_run(program: Path) -> Path:
+    """From where a program runs."""
+    if program not in (KEPT, KEPT_WORKER):
+        return program
+    try:
+        return Path(compared(str(program)))
+    except OtherSum as fault:
+        raise ProgramMissing(str(fault)) from None
+    except OSError as fault:
+        raise ProgramMissing(f"the program {program} cannot be read: {fault.strerror}") from None
 
 
 def built_worker(program: Path) -> Optional[Path]:
@@ -57,7 +87,7 @@ def built_worker(program: Path) -> Optional[Path]:
 
 def _is_same(program: Path, other: Path) -> bool:
     """Whether two programs are there and have the same bytes."""
-    return other.is_file() and digest_of(program) == digest_of(other)
+    return is_copy_of(str(program), str(other)) or (other.is_file() and digest_of(program) == digest_of(other))
 
 
 def is_of_these_sources(program: Path) -> bool:
@@ -91,7 +121,7 @@ def _sources_of(crate: str) -> str:
 
 def digest_of(program: Path) -> str:
     """The SHA-256 of a program, in hexadecimal digits."""
-    return _digest(program, program.stat().st_mtime_ns)
+    return digest_of_copy(str(program)) or _digest(program, program.stat().st_mtime_ns)
 
 
 @lru_cache(maxsize=8)

@@ -11,7 +11,7 @@ from .asking import Asking
 from .checking import Checking
 from .engine import Engine
 from .plan import Plan
-from .program import built_program
+from .program import program_to_run
 from .shape import shape_of
 from .simulating import FarmSimulation, parts_of
 
@@ -32,7 +32,7 @@ def simulate(words: SimulationWords, problem: bytes, say: Callable[[str], None],
 
     FarmError with a status as in docs/use/FORMAT.md where the program refuses the problem, the journal or the words, or no worker is left.
     """
-    shape, program = shape_of(problem), built_program(words.program)
+    shape, program = shape_of(problem), program_to_run(words.program)
     simulation = FarmSimulation(problem, shape, program, words.journal, parts_of(shape, words.seed, words.count))
     with tempfile.TemporaryDirectory(prefix="hydroplan-farm-") as folder:
         (Path(folder) / "problem.json").write_bytes(problem)

@@ -18,7 +18,7 @@ from .journals import Growing, refused
 from .local_engine import LocalEngine
 from .new_files import created
 from .plan import Plan
-from .program import Begun, built_program, built_worker, command
+from .program import Begun, command, program_to_run, worker_to_run
 from .proving import Job, Proving, Round
 from .rooms import JOURNAL, PROBLEM, room_beside
 from .shape import Shape, require_room, shape_of
@@ -62,7 +62,7 @@ class Progress:
 def engine_of(words: Words) -> Engine:
     """The workers that the words ask for: those of a scheduler, or processes of this machine."""
     if words.scheduler is None:
-        return LocalEngine(words.workers or 1, built_program(words.program))
+        return LocalEngine(words.workers or 1, program_to_run(words.program))
     return DaskEngine(words.scheduler)
 
 
@@ -90,7 +90,8 @@ def train(words: Words, problem: bytes, say: Callable[[str], None], engine_from:
 
     FarmError with a status as in docs/use/FORMAT.md where the program refuses the problem, the journal or the words, or no worker is left.
     """
-    program = built_program(words.program)
+    program = program_to_run(words.program)
+    living = worker_to_run(program)
     with closing(AtWork(words, engine_from)) as at_work:
         shape = _prepared(words, problem, program, at_work)
         with Growing(words.journal) as journal, room_beside(words.journal, say) as room:
@@ -101,7 +102,7 @@ def train(words: Words, problem: bytes, say: Callable[[str], None], engine_from:
             with Growing(room / JOURNAL, is_synced=False) as scratch:
                 scratch.cut(front.records, front.end)
                 plan = Plan(words.journal, shape.digest)
-                job = Job(problem, shape, program, built_worker(program), head.seed, head.batch, words.count, plan.run)
+                job = Job(problem, shape, program, living, head.seed, head.batch, words.count, plan.run)
                 training = FarmTraining(job, plan, Proving(job, front, journal, scratch), front.records)
                 verdict = _trained(words, training, at_work, say) if front.records < words.count else None
                 return (verdict or Checking(program, scratch.path, room / PROBLEM).verdict()).report

@@ -16,7 +16,7 @@ from .early import BEGUN
 from .journals import JOURNAL_REFUSED, unframed
 from .kept import KeptJournal
 from .living import MOST_JOINED, MOST_LINE, Living, ProcessFault
-from .program import built_program, built_worker, digest_of
+from .program import digest_of, program_to_run, worker_to_run
 from .shape import MOST_ITERATIONS
 
 TRAINED, LACKING, OTHER_PROGRAM, PROGRAM_FAILED, SIMULATED, BROKEN = b"T", b"L", b"P", b"F", b"S", b"E"
@@ -187,7 +187,7 @@ def _failed(status: int, line: str) -> bytes:
 def _program(order: Order) -> Optional[Path]:
     """The program that the order names, if it is here: by its place on one's own machine, else the one that is found, with its digest."""
     try:
-        found = Path(order["place"]) if order["place"] else built_program()
+        found = Path(order["place"]) if order["place"] else program_to_run()
         return found if digest_of(found) == order["program"] else None
     except (OSError, ProgramMissing):
         return None
@@ -198,7 +198,7 @@ def _living_program(order: Order) -> Optional[Path]:
     if order["kind"] != "train" or not order["living"] or order["most_parts"] > MOST_JOINED:
         return None
     try:
-        found = built_worker(Path(order["place"]) if order["place"] else built_program())
+        found = worker_to_run(Path(order["place"]) if order["place"] else program_to_run())
         return found if found is not None and digest_of(found) == order["living"] else None
     except (OSError, ProgramMissing):
         return None
