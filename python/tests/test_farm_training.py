@@ -218,6 +218,18 @@ class Liars(Folder):
             report, said = farmed(example(self.NAME), journal, engine, 6, 2)
             self.assertEqual(bound_of(ran(example(self.NAME), "check", str(journal))), bound_of("\n".join(report)))
 
+    def test_a_multiplier_that_was_changed_and_still_holds(self) -> None:
+        """Each record of a worker has a bit of a multiplier flipped: all are accepted, nobody is named, and the bound holds and is weaker."""
+        for at, bit in ((19, 1), (40, 1), (40, 64), (103, 1)):
+            def lie(order: Dict[str, object], answer: bytes, at: int = at, bit: int = bit) -> bytes:
+                return answer[:at] + bytes([answer[at] ^ bit]) + answer[at + 1:]
+            journal = self.room / f"journal-{at}-{bit}"
+            report, said = farmed(example(self.NAME), journal, PlainEngine("ab", {"b": lie}), 6, 2)
+            honest, _ = farmed(example(self.NAME), self.room / f"honest-{at}-{bit}", PlainEngine("ab"), 6, 2)
+            self.assertEqual([it for it in said if it.startswith("worker b")], [])
+            self.assertEqual(bound_of(ran(example(self.NAME), "check", str(journal))), bound_of("\n".join(report)))
+            self.assertLess(bound_of("\n".join(report)), bound_of("\n".join(honest)))
+
     def test_records_of_another_problem(self) -> None:
         self.assert_named(of_another_problem, "is none of this problem|its answer is no")
 
