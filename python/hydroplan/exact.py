@@ -17,6 +17,8 @@ Number = Union[int, float, str, Decimal, Fraction, SupportsIndex]
 TEXT = re.compile(r"[+-]?(?:\d+(?:\.\d*)?|\.\d+)(?:[eE][+-]?\d{1,3})?\Z")
 QUOTIENT = re.compile(r"[+-]?\d+/\d+\Z")
 MOST_DIGITS = 300
+MOST_CHARACTERS = 1000
+TOO_LONG = 10**MOST_DIGITS
 DIGITS = 60
 
 
@@ -27,10 +29,15 @@ def exact(number: object, what: str = "a number") -> Fraction:
     """
     found = _exact(number)
     if found is None:
-        raise ModelError(f"{what} has to be a number, and is {number!r}")
-    if max(len(str(abs(found.numerator))), len(str(found.denominator))) > MOST_DIGITS:
+        raise ModelError(f"{what} has to be a number, and is {_begun(repr(number))}")
+    if _is_long(found):
         raise ModelError(f"{what} has more than {MOST_DIGITS} digits")
     return found
+
+
+def _begun(text: str) -> str:
+    """A text, or the beginning of a long one."""
+    return text if len(text) <= MOST_CHARACTERS else f"{text[:MOST_DIGITS]}.. of {len(text):,} characters"
 
 
 def exact_weight(number: object, what: str) -> Fraction:
@@ -49,8 +56,13 @@ def exact_weight(number: object, what: str) -> Fraction:
 
 
 def is_number(value: object) -> bool:
-    """Whether a value can stand for a number: a text that is none cannot."""
-    return _exact(value) is not None
+    """Whether a value can stand for a number: a text that is none cannot, nor one of more than 300 digits."""
+    found = _exact(value)
+    return found is not None and not _is_long(found)
+
+
+def _is_long(value: Fraction) -> bool:
+    return max(abs(value.numerator), value.denominator) >= TOO_LONG
 
 
 def _exact(number: object) -> Union[Fraction, None]:
@@ -72,6 +84,8 @@ def _exact(number: object) -> Union[Fraction, None]:
 
 
 def _of_text(text: str) -> Union[Fraction, None]:
+    if len(text) > MOST_CHARACTERS:
+        return None
     if QUOTIENT.match(text):
         return Fraction(text) if int(text.partition("/")[2]) else None
     return Fraction(text) if TEXT.match(text) else None

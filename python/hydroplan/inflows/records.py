@@ -3,6 +3,7 @@ from __future__ import annotations
 
 import calendar
 import csv
+import io
 import os
 from dataclasses import dataclass, replace
 from fractions import Fraction
@@ -10,6 +11,7 @@ from typing import Dict, Iterable, List, Optional, Sequence, Tuple, Union
 
 from ..errors import HydroplanError, ModelError
 from ..exact import Number, exact
+from ..tools.bounded_files import whole_file
 from ..tools.shown_names import shown_name
 
 MOST_SHOWN = 20
@@ -153,7 +155,7 @@ def read_record(
     if partial_years not in (REFUSE, LEAVE_OUT):
         raise InflowError(f'partial_years is "{REFUSE}" or "{LEAVE_OUT}", and not {partial_years!r}')
     found = _Reading(os.fspath(path), steps)
-    with open(path, encoding="utf-8-sig", newline="") as file:
+    with io.TextIOWrapper(io.BytesIO(whole_file(path)), encoding="utf-8-sig", newline="") as file:
         found.read(file, delimiter)
     return found.record(unit, partial_years == LEAVE_OUT)
 
@@ -270,23 +272,20 @@ class _Reading:
 
     def _gaps(self) -> List[Fault]:
         """A fault for each run of missing rows, at the row in front of it, or behind it where it is the first."""
-        first, last = min(self.rows)[0], max(self.rows)[0]
-        wanted = [(year, step) for year in range(first, last + 1) for step in range(1, (self.steps or 0) + 1)]
-        faults: List[Fault] = []
-        run: List[Key] = []
-        before: Optional[int] = None
-        for key in [*wanted, None]:
-            if key is not None and key not in self.rows:
-                run.append(key)
-                continue
-            if run:
-                faults.append(self._gap(run, before, key))
-            run, before = [], before if key is None else self.rows[key][0]
-        return faults
+        steps, keys = self.steps or 0, sorted(self.rows)
+        first, last = keys[0][0] * steps, (keys[-1][0] + 1) * steps
+        places = [year * steps + step - 1 for year, step in keys]
+        lines = [self.rows[key][0] for key in keys]
+        pairs = zip([first - 1, *places], [*places, last], [None, *lines], [*lines, None])
+        return [self._gap(before + 1, after - 1, line, next_line) for before, after, line, next_line in pairs if after - before > 1]
 
-    def _gap(self, run: Sequence[Key], before: Optional[int], after: Optional[Key]) -> Fault:
-        ends = [f"year {year}, {self.kind} {step}" for year, step in (run[0], run[-1])]
-        words = f"{ends[0]} is missing" if len(run) == 1 else f"{ends[0]} to {ends[1]} are missing, {len(run)} rows"
-        if before is None:
-            return Fault(self.rows[after][0] if after else 1, 2, f"{words} in front of this row")
-        return Fault(before, 2, f"{words} behind this row")
+    def _gap(self, first: int, last: int, before: Optional[int], after: Optional[int]) -> Fault:
+        """A fault of the rows from one place to another, counted through all years, between rows that stand in these lines."""
+        year, step = divmod(first, self.steps or 1)
+        last_year, last_step = divmod(last, self.steps or 1)
+        words = f"year {year}, {self.kind} {step + 1} is missing"
+        if first < last:
+            words = (
+                f"year {year}, {self.kind} {step + 1} to year {last_year}, {self.kind} {last_step + 1} are missing, {last - first + 1} rows"
+            )
+        return Fault(after or 1, 2, f"{words} in front of this row") if before is None else Fault(before, 2, f"{words} behind this row")

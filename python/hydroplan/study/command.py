@@ -16,6 +16,7 @@ from ..errors import HydroplanError, NoStageSolution, TrainingInterrupted
 from ..limits import sizes
 from ..plants.elements import Element
 from ..tables import package
+from ..tools.word_parser import WordParser
 from .training import KeptJournal, dead_end, train_study
 from .results_folder import RESULTS, write_results
 from .study import Study, read_study
@@ -30,7 +31,7 @@ PLURALS = {"bus": "buses", "battery": "batteries"}
 
 def parser() -> argparse.ArgumentParser:
     """What the command line may say."""
-    top = argparse.ArgumentParser(prog="hydroplan study", description=DESCRIPTION, allow_abbrev=False)
+    top = WordParser(prog="hydroplan study", description=DESCRIPTION, allow_abbrev=False)
     top.add_argument("folder", type=Path, metavar="FOLDER", help="the folder with study.toml")
     top.add_argument("--check", action="store_true", help="read and compile everything, print a summary, and run nothing")
     words = "set a key of study.toml for this run, as in --set stop.gap=0.02; may be repeated"

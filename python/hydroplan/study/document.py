@@ -16,8 +16,9 @@ from typing import Any, Dict, Iterable, List, Mapping, Optional, Sequence, Tuple
 
 from ..code_places import CodePlace
 from ..errors import HydroplanError, MissingPackage
-from ..exact import is_number
+from ..exact import MOST_DIGITS, is_number
 from ..plants.amounts import suggestion
+from ..tools.bounded_files import MOST_TOML_BYTES, whole_file
 from ..tools.shown_names import shown_name
 
 
@@ -156,6 +157,30 @@ class _Scanner:
             self._step()
 
 
+MOST_LEVELS = 32
+MARK = re.compile(rf"""(?P<text>{TEXT.pattern})|\#[^\n]*|(?P<word>[A-Za-z0-9_]+)|(?P<sign>[-.\[\]{{}}])|(?P<end>[^ \t])""", re.DOTALL)
+LONG_NUMBER = re.compile(rf"(?:[0-9_]{{{MOST_DIGITS + 1},}}|0[box][0-9A-Fa-f_]{{{MOST_DIGITS + 1},}})\Z")
+
+
+def refuse_extremes(text: str, called: str) -> None:
+    """Refuses what no study has and no reader gets through: brackets or keys of very many levels, and very long numbers.
+
+    It is enough to tell strings, comments, words and brackets apart. StudyError names the line.
+    """
+    levels = dots = 0
+    for found in MARK.finditer(text):
+        sign = found["sign"]
+        levels += (sign in ("[", "{")) - (sign in ("]", "}")) if sign else 0
+        dots = dots + 1 if sign == "." else dots if found["text"] or found["word"] or sign == "-" else 0
+        wrong = (
+            f"brackets stand at most {MOST_LEVELS} deep" if levels > MOST_LEVELS
+            else f"a key has at most {MOST_LEVELS} parts" if dots >= MOST_LEVELS
+            else f"a number has at most {MOST_DIGITS} digits" if found["word"] and LONG_NUMBER.match(found["word"]) else None
+        )
+        if wrong is not None:
+            raise StudyError(shown_name(f"{called}:{text.count(chr(10), 0, found.start()) + 1}: {wrong}"))
+
+
 FAULT_LINE = re.compile(r" \(at line (\d+), column (\d+)\)")
 
 
@@ -183,11 +208,12 @@ class Document:
     def read(cls, path: FilePath) -> Document:
         """The document in a file, or StudyError where it cannot be read or is no TOML."""
         try:
-            text = path.read_bytes().decode("utf-8-sig").replace("\r\n", "\n")
+            text = whole_file(path, MOST_TOML_BYTES).decode("utf-8-sig").replace("\r\n", "\n")
         except OSError as fault:
-            raise StudyError(f"{path}: {fault.strerror}") from None
+            raise StudyError(shown_name(f"{path}: {fault.strerror}")) from None
         except UnicodeDecodeError as fault:
-            raise StudyError(f"{path}: no UTF-8: {fault.reason} at byte {fault.start}") from None
+            line = fault.object.count(b"\n", 0, fault.start) + 1
+            raise StudyError(shown_name(f"{path}: no UTF-8: {fault.reason} at byte {fault.start}, in line {line}")) from None
         values = _parsed(text, str(path))
         return cls(str(path), values, {key: CodePlace(str(path), line) for key, line in lines_of(text).items()})
 
@@ -211,12 +237,13 @@ class Document:
 
 
 def _parsed(text: str, called: str) -> Dict[str, Any]:
+    refuse_extremes(text, called)
     try:
         return _read_toml(text)
     except ValueError as fault:
         found = FAULT_LINE.search(str(fault))
         line, words = (f":{found[1]}", str(fault).replace(found[0], "")) if found else ("", str(fault))
-        raise StudyError(f"{called}{line}: no TOML: {words}") from None
+        raise StudyError(shown_name(f"{called}{line}: no TOML: {words}")) from None
 
 
 def _merge(values: Dict[str, Any], others: Mapping[str, Any]) -> None:
@@ -328,8 +355,12 @@ class Table:
         return value
 
 
+MOST_SHOWN = 100
+
+
 def shown(value: object) -> str:
-    """A value as messages show it."""
+    """A value as messages show it; of a long one the beginning."""
     if isinstance(value, bool):
         return "true" if value else "false"
-    return f'"{value}"' if isinstance(value, str) else str(value)
+    text = f'"{value}"' if isinstance(value, str) else str(value)
+    return text if len(text) <= MOST_SHOWN else f"{text[:MOST_SHOWN]}.. of {len(text):,} characters"

@@ -12,7 +12,8 @@ from ..errors import ModelError
 from ..exact import is_number
 from ..plants import Battery, Bus, Export, Import, Line, Pump, Renewable, Reservoir, System, Thermal, Way
 from ..plants.elements import Element
-from .numbers import CsvFile, CsvFiles, NumberReader
+from ..tools.shown_names import shown_name
+from .numbers import CsvFile, CsvFiles, NumberReader, refuse_formula
 from .document import Document, StudyError, Table, shown
 
 ELEMENTS: Tuple[Type[Element], ...] = (Bus, Reservoir, Thermal, Line, Renewable, Import, Export, Pump, Battery)
@@ -32,12 +33,14 @@ def add_elements(system: System, top: Table, files: CsvFiles, reader: NumberRead
     reservoirs = {it.name for it, _ in system.of_kind(Reservoir)}
     for it, _ in system.of_kind(Thermal):
         if it.name in reservoirs:
-            raise StudyError(f'{it.place}: thermal "{it.name}" has the name of a reservoir: results would not tell their generation apart')
+            words = f'{it.place}: thermal "{it.name}" has the name of a reservoir: results would not tell their generation apart'
+            raise StudyError(shown_name(words))
 
 
 def _add(system: System, kind: Type[Element], table: Table, reader: NumberReader) -> None:
     """Makes an element of a table, and adds it."""
     name = str(table.path[-1])
+    refuse_formula(table, name)
     table.only([it.name for it in fields(kind) if it.name != "name"])
     members = {key: _member(kind, table, key, reader) for key in table.members}
     try:
@@ -52,7 +55,7 @@ def _placed(table: Table, words: str) -> StudyError:
     words = words.replace(f" ({table.place()})", "")
     found = MEMBER.match(words)
     key = [found[1]] if found is not None and found[1] in table.members else []
-    return StudyError(f"{table.place(*key)}: {words}")
+    return StudyError(shown_name(f"{table.place(*key)}: {words}"))
 
 
 def _member(kind: Type[Element], table: Table, key: str, reader: NumberReader) -> Any:

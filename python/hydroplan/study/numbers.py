@@ -2,6 +2,7 @@
 from __future__ import annotations
 
 import csv
+import io
 from dataclasses import dataclass, field
 from fractions import Fraction
 from pathlib import Path
@@ -10,6 +11,7 @@ from typing import Any, Dict, List, Mapping, Optional, Sequence, Set, Tuple
 from ..exact import exact, is_number
 from ..plants import Random, Tiers, flow
 from ..plants.amounts import Member, suggestion
+from ..tools.bounded_files import whole_file
 from ..tools.shown_names import shown_name
 from .document import StudyError, Table, shown
 from .stage_calendar import IN_A_YEAR, MONTH, WEEK, StageCalendar
@@ -51,9 +53,11 @@ class CsvFiles:
         return self._read[name, empty_rows]
 
     def _file(self, table: Table, key: str, name: str, empty_rows: bool) -> CsvFile:
+        if Path(name).is_absolute() or ".." in Path(name).parts:
+            raise table.fault(f"names {shown(name)}, and takes a file in the folder of the study: a path without .. and no absolute one", key)
         path = self._folder / name
         try:
-            with path.open(newline="", encoding="utf-8-sig") as file:
+            with io.TextIOWrapper(io.BytesIO(whole_file(path)), newline="", encoding="utf-8-sig") as file:
                 reader = csv.reader(file, strict=True)
                 rows = [(reader.line_num, tuple(cell.strip() for cell in row)) for row in reader]
         except OSError as fault:
@@ -267,3 +271,14 @@ def check_block_names(table: Table, names: Mapping[str, object]) -> None:
     wrong = next((it for it in names if it in (*FORMS, *OF_TIERS) or it.isdigit() or ":" in it), None)
     if wrong is not None:
         raise table.fault("is a word of numbers, a whole number, or has a colon: call the load block otherwise", wrong)
+    for name in names:
+        refuse_formula(table, name, name)
+
+
+FORMULA_SIGNS = ("=", "+", "-", "@", "\t", "\r", "\n")
+
+
+def refuse_formula(table: Table, name: str, *keys: object) -> None:
+    """Refuses a name that a spreadsheet which opens the results would take for a formula."""
+    if name.startswith(FORMULA_SIGNS):
+        raise table.fault("begins as a formula of a spreadsheet does: a name begins with none of = + - @, tab and new line", *keys)

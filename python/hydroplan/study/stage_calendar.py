@@ -63,17 +63,27 @@ def read_calendar(table: Table) -> StageCalendar:
     """The calendar of the table `calendar`; StudyError where it is none."""
     table.only(("start", "stages", "step", "hours"))
     stages, start = table.whole("stages", 1, MOST_STAGES), table.date("start")
+    try:
+        return _read(table, start, stages)
+    except (OverflowError, ValueError) as fault:
+        if isinstance(fault, StudyError):
+            raise
+        raise table.fault(f"leads behind the year {datetime.MAXYEAR}, the last that a calendar has", "stages") from None
+
+
+def _read(table: Table, start: datetime.date, stages: int) -> StageCalendar:
+    """The calendar; OverflowError or ValueError where the day behind its last stage is no date."""
     if "hours" in table.members:
         if "step" in table.members:
             raise table.fault('is not given beside "hours"', "step")
         return _own(table, start, stages)
     if table.choice("step", STEPS, MONTH) == WEEK:
-        dates = [start + datetime.timedelta(days=DAYS_OF_A_WEEK * at) for at in range(stages)]
-        return StageCalendar(WEEK, tuple(dates), (Fraction(DAYS_OF_A_WEEK * HOURS_OF_A_DAY),) * stages)
+        dates = [start + datetime.timedelta(days=DAYS_OF_A_WEEK * at) for at in range(stages + 1)]
+        return StageCalendar(WEEK, tuple(dates[:-1]), (Fraction(DAYS_OF_A_WEEK * HOURS_OF_A_DAY),) * stages)
     if start.day != 1:
         raise table.fault(f"is the first day of a month where stages are months, and not {start}", "start")
-    months = [divmod(start.month - 1 + at, 12) for at in range(stages)]
-    found = [datetime.date(start.year + years, month + 1, 1) for years, month in months]
+    months = [divmod(start.month - 1 + at, 12) for at in range(stages + 1)]
+    found = [datetime.date(start.year + years, month + 1, 1) for years, month in months][:-1]
     hours = [Fraction(calendar.monthrange(it.year, it.month)[1] * HOURS_OF_A_DAY) for it in found]
     return StageCalendar(MONTH, tuple(found), tuple(hours))
 
@@ -85,8 +95,8 @@ def _own(table: Table, start: datetime.date, stages: int) -> StageCalendar:
     if len(numbers) != stages:
         raise table.fault(f"has {len(numbers)} numbers, and there are {stages} stages", "hours")
     hours = [_positive(table, number) for number in numbers]
-    begins = [start + datetime.timedelta(hours=float(sum(hours[:at]))) for at in range(stages)]
-    return StageCalendar(OWN, tuple(begins), tuple(hours))
+    begins = [start + datetime.timedelta(hours=float(sum(hours[:at]))) for at in range(stages + 1)]
+    return StageCalendar(OWN, tuple(begins[:-1]), tuple(hours))
 
 
 def _positive(table: Table, number: Any) -> Fraction:

@@ -20,10 +20,11 @@ from ..model import Model
 from ..plants import System
 from ..programs import Compiled
 from ..runs import MOST_BATCH, MOST_SEED, BoundStalling, IterationLimit, Statistical, StopRule, TimeLimit
+from ..tools.shown_names import shown_name
 from .document import Document, StudyError, Table
 from .elements import KINDS, add_elements
 from .inflow_model import InflowModel, read_inflows
-from .numbers import CsvFiles, NumberReader, check_block_names
+from .numbers import CsvFiles, NumberReader, check_block_names, refuse_formula
 from .stage_calendar import StageCalendar, read_blocks, read_calendar
 
 MOST_SCENARIOS = 10_000
@@ -210,7 +211,7 @@ def _refused(made: Callable[[], Made]) -> Made:
     try:
         return made()
     except ModelError as fault:
-        raise StudyError(str(fault) + (FINER if TOO_COARSE in str(fault) else "")) from None
+        raise StudyError(shown_name(str(fault)) + (FINER if TOO_COARSE in str(fault) else "")) from None
 
 
 def read_study(folder: Path, overrides: Sequence[str] = ()) -> Study:
@@ -230,6 +231,7 @@ def read_study(folder: Path, overrides: Sequence[str] = ()) -> Study:
     inflow = read_inflows(top.table("inflow"), reader)
     _set_inflows(system, inflow, top)
     units = top.table("units").only(("money",))
+    refuse_formula(units, units.text("money", "money"), "money")
     return Study(
         folder, top.text("title", folder.resolve().name), units.text("money", "money"), times, system, inflow,
         _resolution(top.table("resolution")), read_options(top), document,
