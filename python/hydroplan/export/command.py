@@ -8,6 +8,7 @@ from typing import Any, Optional, Sequence
 
 from hydroplan.errors import HydroplanError
 from hydroplan.report.folder import shown_name
+from hydroplan.tools.word_parser import WordParser
 
 from .pivots import COLUMN_NUMBERS, WHAT, Choice, wide_table
 
@@ -21,7 +22,7 @@ FORMULA_SIGNS = ("=", "+", "-", "@")
 
 def parser() -> argparse.ArgumentParser:
     """What the command line may say."""
-    top = argparse.ArgumentParser(prog="export", description=DESCRIPTION)
+    top = WordParser(prog="export", description=DESCRIPTION)
     top.add_argument("results", type=Path, metavar="RESULTS", help="the folder, with summary.json")
     top.add_argument("--what", choices=WHAT, required=True, help="volumes of reservoirs, energy of all that gives or takes it, or prices by bus")
     top.add_argument("--to", type=Path, metavar="FILE.csv", help="the file (standard output)")

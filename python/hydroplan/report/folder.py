@@ -9,6 +9,7 @@ from typing import Any, Dict, Iterator, List, Mapping, Optional, Sequence, Tuple
 
 from ..errors import HydroplanError
 from ..tables import package
+from ..tools.bounded_files import opened, whole_file
 from ..tools.shown_names import shown_name
 
 
@@ -170,16 +171,16 @@ def read_summary(folder: Path) -> Summary:
     """The summary of a folder of results; ReportError where it is not there, is no JSON, or lacks its calendar."""
     path = folder / FILE
     try:
-        read = json.loads(path.read_text(encoding="utf-8"))
+        read = json.loads(whole_file(path).decode("utf-8"))
     except OSError as fault:
         raise ReportError(f"cannot open {path}: {fault.strerror}; a folder of results has it") from None
-    except ValueError as fault:
+    except (ValueError, RecursionError) as fault:
         raise ReportError(f"{path} is no JSON: {fault}") from None
     if not isinstance(read, dict):
         raise ReportError(f"{path}: an object is expected")
     try:
         return _summary(read)
-    except (KeyError, TypeError, ValueError, AttributeError) as fault:
+    except (KeyError, TypeError, ValueError, AttributeError, OverflowError) as fault:
         raise ReportError(f"{path}: a member is missing or of another kind: {type(fault).__name__} {fault}") from None
 
 
@@ -291,6 +292,14 @@ NAMES = {"block", "element", "quantity", "reservoir", "bus", "unit", "node"}
 ROWS_AT_ONCE = 500_000
 
 
+def _named(part: Any, path: Path) -> Any:
+    """The rows, where none is so short that it has no name."""
+    lacking = next((it for it in part.columns if it in NAMES and part[it].isna().any()), None)
+    if lacking is not None:
+        raise ReportError(f'{path}: a row is too short, and has no "{lacking}"')
+    return part
+
+
 class Results:
     """A folder of results: its summary, and its tables when they are asked for."""
 
@@ -323,9 +332,12 @@ class Results:
         empty = {it: [""] for it in columns if it not in NAMES and it not in WHOLE}
         words = {"usecols": list(columns), "dtype": kinds, "keep_default_na": False, "na_values": empty, "encoding": "utf-8"}
         try:
-            read = pandas.read_csv(path, **words, chunksize=rows_at_once)
-            yield from read if rows_at_once else [read]
-        except (ValueError, OSError) as fault:
+            with open(opened(path), "rb") as file:
+                read = pandas.read_csv(file, **words, chunksize=rows_at_once)
+                yield from (_named(part, path) for part in (read if rows_at_once else [read]))
+        except OSError as fault:
+            raise ReportError(f"cannot open {path}: {fault.strerror}") from None
+        except (ValueError, OverflowError) as fault:
             raise ReportError(f"{path}: {fault}") from None
 
     def lines(self, name: str) -> Optional[List[str]]:

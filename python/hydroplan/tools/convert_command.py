@@ -11,7 +11,9 @@ from fractions import Fraction
 from pathlib import Path
 from typing import Any, Callable, Optional, Sequence, TextIO, TypeVar
 
+from ..exact import exact
 from .back import BadReport, Back
+from .bounded_files import opened, whole_file
 from .converting import Bounds, Ledger, Options, compile_model, ledger_lines, problem_text
 from .located_json import Cursor, NotJson, Refused, parse
 from .stochopt import Quantity, quantity, read_model
@@ -19,6 +21,7 @@ from .profile import MOST_FILE_BYTES
 from .scales import Scales, read_scales, write_scales
 from .shown_names import shown_name
 from .waiting import in_words, standard_input
+from .word_parser import WordParser
 
 Read = TypeVar("Read")
 DESCRIPTION = """Converts between StochOptFormat with decimal numbers and the whole numbers of hydroplan. Nothing here is
@@ -33,7 +36,7 @@ on which they stay bounds, other numbers to the nearest."""
 
 def parser() -> argparse.ArgumentParser:
     """What the command line may say."""
-    top = argparse.ArgumentParser(prog="convert", description=DESCRIPTION)
+    top = WordParser(prog="convert", description=DESCRIPTION)
     commands = top.add_subparsers(dest="command", required=True)
     problem = commands.add_parser("problem", description=PROBLEM, help="a file of StochOptFormat to a problem")
     add = problem.add_argument
@@ -45,7 +48,7 @@ def parser() -> argparse.ArgumentParser:
     add("--negate-max", action="store_true", help="turn sense max into min, all costs negated")
     add("--normalise", action="store_true", help="take probabilities that do not sum to 1 as parts of their sum")
     add("--largest", type=int, default=10**9, help="no found scale makes a greater number (10^9)")
-    add("--tolerance", type=Fraction, default=Fraction(1, 1000), help="refuse what is rounded by more than this part (0.001)")
+    add("--tolerance", type=exact, default=Fraction(1, 1000), help="refuse what is rounded by more than this part (0.001)")
     add("--successor-total", type=int, default=1, help="weights of a node's successors add up to this at least (1); 256 makes cuts finer")
     add("--ledger", type=Path, help="where the lines on roundings are written")
     back = commands.add_parser("back", description=BACK, help="a report of hydroplan to your units")
@@ -70,7 +73,7 @@ def main(words: Optional[Sequence[str]] = None) -> int:
 
 def load(path: Path) -> Cursor:
     """The value of a file."""
-    document = parse(path.read_bytes())
+    document = parse(whole_file(path))
     return Cursor(document, document.root)
 
 
@@ -114,7 +117,7 @@ def _back(chosen: argparse.Namespace) -> int:
     if chosen.report is None:
         sys.stdout.writelines(line + "\n" for line in turning.lines(standard_input("convert", "a report", "a word behind `back` names a file")))
         return 0
-    with chosen.report.open(encoding="utf-8", newline="\n") as report:
+    with open(opened(chosen.report), encoding="utf-8", newline="\n") as report:
         sys.stdout.writelines(line + "\n" for line in turning.lines(report))
     return 0
 

@@ -4,13 +4,13 @@ Outside the proved core: it looks at the file again on its own, and the program'
 """
 from __future__ import annotations
 
-import argparse
 import re
 import sys
 from fractions import Fraction
 from pathlib import Path
 from typing import Iterable, Optional, Sequence
 
+from .bounded_files import whole_file
 from .located_json import Cursor, NotJson, Refused, parse, path_text
 from .decimals import decimal_text
 from .misspellings import random_names, warnings
@@ -20,6 +20,7 @@ from .profile import SCALE
 from .shown_names import shown_name
 from .status_lines import explain_status
 from .waiting import in_words, standard_input
+from .word_parser import WordParser
 
 DESCRIPTION = """Reads the problem file, or the description of hydro plants, and, on standard input, what hydroplan wrote on
 standard error. Writes on standard output for each line of hydroplan what it means, with names, the JSON path, line and
@@ -31,6 +32,7 @@ RANGE = re.compile(r"range: iteration (\d+) node (\d+) realization (\d+)")
 NUMBERS = r"((?: -?\d+)*)"
 NO_STAGE = re.compile(rf"no stage solution: run (\d+) node (\d+) values{NUMBERS} state{NUMBERS} rows{NUMBERS}")
 CERTIFICATE = re.compile(r"journal refused: BadCertificate iteration (\d+) node (\d+) (\w+)((?: \d+)*)")
+LONG = re.compile(r"\d{65}")
 FAULTS = {
     "Shape": "not one certificate per realization, or not one multiplier per row and list per successor, at realization {0}",
     "Sign": "row {1} lacks the side on which its multiplier stands, at realization {0}",
@@ -40,9 +42,9 @@ FAULTS = {
 }
 
 
-def parser() -> argparse.ArgumentParser:
+def parser() -> WordParser:
     """What the command line may say."""
-    found = argparse.ArgumentParser(
+    found = WordParser(
         prog="explain", description=DESCRIPTION,
         epilog="example: ./hydroplan base < problem.json 2>&1 > report.txt | ./hydroplan explain problem.json; "
         "./hydroplan hydro < plants.json 2>&1 > problem.json | ./hydroplan explain plants.json",
@@ -57,7 +59,7 @@ def main(words: Optional[Sequence[str]] = None) -> int:
     """The status: 0, or 1 where the file cannot be read."""
     chosen = parser().parse_args(words)
     try:
-        data = chosen.problem.read_bytes()
+        data = whole_file(chosen.problem)
     except OSError as fault:
         print(shown_name(f"explain: {in_words(fault)}"), file=sys.stderr)
         return 1
@@ -101,6 +103,8 @@ def _explained(root: Cursor, line: str) -> list[str]:
 
 def explain_line(root: Cursor, line: str) -> list[str]:
     """What a line of the program means."""
+    if LONG.search(line):
+        return ["this line is none of the program, whose numbers have at most 64 digits"]
     refusal = read_refusal(line)
     if refusal is not None:
         return _refusal(root, refusal)

@@ -10,7 +10,9 @@ from fractions import Fraction
 from pathlib import Path
 from typing import Any, Callable, Iterator, Optional, Sequence
 
+from ..exact import exact, is_number
 from .back import BadReport
+from .bounded_files import whole_file
 from .located_json import Cursor, NotJson, Refused, parse
 from .decimals import decimal_text
 from .reports import Report, read_file
@@ -20,6 +22,7 @@ from .series import (
     water_values_at,
 )
 from .waiting import in_words
+from .word_parser import WordParser
 
 # makes a figure by the module `drawing`, which is imported where one is drawn
 Drawing = Callable[[Any], Any]
@@ -33,7 +36,7 @@ OF_A_STUDY = "of a study's folder of results `bounds` and `storage` are drawn, a
 
 def parser() -> argparse.ArgumentParser:
     """What the command line may say."""
-    top = argparse.ArgumentParser(prog="plot", description=DESCRIPTION)
+    top = WordParser(prog="plot", description=DESCRIPTION)
     commands = top.add_subparsers(dest="command", required=True)
     bounds = _command(commands, "bounds", "the bound over iterations")
     bounds.add_argument("reports", type=Path, nargs="+", help="reports of train or check, or folders of results")
@@ -144,7 +147,7 @@ def _water_value(report: Report) -> str:
 
 
 def _problem(path: Path) -> Cursor:
-    document = parse(path.read_bytes())
+    document = parse(whole_file(path))
     return Cursor(document, document.root)
 
 
@@ -154,7 +157,9 @@ def _state(words: Sequence[str]) -> dict[str, Fraction]:
         name, equals, value = word.rpartition("=")
         if not equals:
             raise ValueError(f"--state {word}: NAME=VALUE is expected")
-        found[name] = Fraction(value)
+        if not is_number(value):
+            raise ValueError(f"--state {word}: Invalid literal for a number")
+        found[name] = exact(value)
     return found
 
 

@@ -13,6 +13,7 @@ from functools import partial
 from pathlib import Path
 from typing import Callable, Iterable, Optional, Sequence, Union
 
+from .bounded_files import MOST_REPORT_BYTES, whole_file
 from .back import HEAD, USER_HEAD, BadReport, split_name
 
 # a number of a report times its unit; a fraction where a report has exact fractions, whose unit is 1
@@ -98,14 +99,18 @@ class Report:
         return found
 
 
+# of a number
+MOST_CHARACTERS = 2_000
 OF_STEPS = ("in", "row", "cost")
 PASSED_OVER = ("value", "random")
 
 
 def read_file(path: Path, of_steps: Sequence[str] = OF_STEPS) -> Report:
     """The report in a file, or BadReport. Of the lines of a trace's steps those with these words are read."""
-    with path.open(encoding="utf-8", newline="\n") as file:
-        text = file.read().removesuffix("\n")
+    try:
+        text = whole_file(path, MOST_REPORT_BYTES).decode("utf-8").removesuffix("\n")
+    except UnicodeDecodeError as fault:
+        raise BadReport(f"{path} is no report: no UTF-8 at byte {fault.start}") from None
     passed_over = "|".join(word for word in (*PASSED_OVER, *OF_STEPS) if word not in of_steps)
     try:
         # most lines of a long trace are passed over, and are never cut out of the text
@@ -141,9 +146,16 @@ def decimal(digits: int, text: str) -> int:
     return int(front + behind.ljust(digits, "0"))
 
 
+def _fraction(text: str) -> Fraction:
+    """An exact number of a report: a fraction or a decimal, without an exponent."""
+    if len(text) > MOST_CHARACTERS or "e" in text.lower():
+        raise ValueError("no number of a report")
+    return Fraction(text)
+
+
 def _users(report: Report, rest: str) -> None:
     report.is_users = True
-    report.raw = Fraction
+    report.raw = _fraction
 
 
 def _scale(report: Report, rest: str) -> None:
@@ -152,6 +164,8 @@ def _scale(report: Report, rest: str) -> None:
 
 def _digits(report: Report, rest: str) -> None:
     digits = int(rest)
+    if not 0 <= digits <= MOST_CHARACTERS:
+        raise ValueError(f"0 to {MOST_CHARACTERS} digits are read")
     report.unit, report.raw = 10**digits, partial(decimal, digits)
 
 

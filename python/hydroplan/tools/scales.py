@@ -13,6 +13,7 @@ from dataclasses import dataclass, field
 from fractions import Fraction
 from typing import Iterable, Iterator, Optional
 
+from ..exact import exact
 from .located_json import Cursor
 from .decimals import simplest_between
 from .stochopt import Constraint, Model, Quantity, Subproblem
@@ -217,7 +218,7 @@ def _scale_of(cursor: Optional[Cursor]) -> Optional[Fraction]:
 def _scale(cursor: Cursor) -> Fraction:
     """A scale: a number, or a text such as "1/3"."""
     try:
-        scale = Fraction(cursor.text()) if cursor.is_text() else cursor.number()
+        scale = exact(cursor.text()) if cursor.is_text() else cursor.number()
     except (ValueError, ZeroDivisionError):
         raise cursor.refuse("Scale", "no number, and no fraction as in \"1/3\"") from None
     if scale <= 0:

@@ -11,12 +11,15 @@ from dataclasses import dataclass
 from fractions import Fraction
 from operator import mul
 from pathlib import Path
-from typing import Any, Callable, Iterable, Iterator, Optional, Sequence
+from typing import Any, Callable, Iterable, Optional, Sequence, TypeVar
 
+from ..exact import exact
+from .bounded_files import opened, whole_file
 from .located_json import Cursor, byte_order
 from .reports import Cut, Raw, Report, Stage
 
 
+Row = TypeVar("Row")
 # bounds by iteration, one list for each name
 Series = Sequence[tuple[str, Sequence[tuple[int, Fraction]]]]
 SHARES = (Fraction(0), Fraction(1, 10), Fraction(1, 4), Fraction(1, 2), Fraction(3, 4), Fraction(9, 10), Fraction(1))
@@ -214,28 +217,49 @@ class StudyResults:
 
     def bounds(self) -> list[tuple[int, Fraction]]:
         """The bound after each iteration, in money."""
-        return [(int(row["iteration"]), Fraction(row["bound"])) for row in self._rows("bounds.csv")]
+        return self._rows("bounds.csv", lambda row: (int(row["iteration"]), exact(row["bound"], "the bound")))
 
     def cost(self) -> PolicyCost:
         """The mean of the simulated scenarios, which is estimated."""
+        place = self.folder / "summary.json"
+        missing = next((it for it in ("scenarios", "mean") if it not in self.estimated), None)
+        if missing is not None:
+            raise ValueError(f'{place} has no "{missing}" in "estimated"')
         label = f"mean of {self.estimated['scenarios']} simulated costs (estimated)"
-        return PolicyCost(label, Fraction(str(self.estimated["mean"])))
+        return PolicyCost(label, exact(str(self.estimated["mean"]), f"the mean of {place}"))
 
     def stored(self) -> tuple[list[Fan], str]:
         """A fan for each reservoir, of what is stored after each stage from 1, and the unit; `your units` where they have several."""
-        found: dict[str, list[dict[str, str]]] = {}
-        for row in self._rows("storage_quantiles.csv"):
-            found.setdefault(row["reservoir"], []).append(row)
-        units = {row["unit"] for rows in found.values() for row in rows}
-        fans = [
-            Fan(name, tuple(int(it["stage"]) for it in rows), tuple(tuple(Fraction(it[key]) for key in QUANTILES) for it in rows))
-            for name, rows in found.items()
-        ]
+        found: dict[str, list[tuple[int, tuple[Fraction, ...]]]] = {}
+        units = set()
+        for name, unit, stage, numbers in self._rows("storage_quantiles.csv", self._quantiles_of):
+            found.setdefault(name, []).append((stage, numbers))
+            units.add(unit)
+        fans = [Fan(name, tuple(stage for stage, _ in rows), tuple(numbers for _, numbers in rows)) for name, rows in found.items()]
         return fans, units.pop() if len(units) == 1 else "your units"
 
-    def _rows(self, name: str) -> Iterator[dict[str, str]]:
-        with (self.folder / name).open(encoding="utf-8", newline="") as file:
-            yield from csv.DictReader(file)
+    def _quantiles_of(self, row: dict[str, str]) -> tuple[str, str, int, tuple[Fraction, ...]]:
+        """The reservoir, the unit, the stage and the quantiles of a row."""
+        stage = int(row["stage"])
+        if not 1 <= stage <= len(self.dates):
+            raise ValueError(f"the calendar has no stage {stage}")
+        return row["reservoir"], row["unit"], stage, tuple(exact(row[key], f'the column "{key}"') for key in QUANTILES)
+
+    def _rows(self, name: str, made: Callable[[dict[str, str]], Row]) -> list[Row]:
+        """What is made of each row; ValueError names the line where a column is missing or no number."""
+        path, line = self.folder / name, 1
+        found = []
+        with open(opened(path), encoding="utf-8", newline="") as file:
+            rows = csv.DictReader(file)
+            try:
+                for row in rows:
+                    line = rows.line_num
+                    found.append(made(row))
+            except KeyError as fault:
+                raise ValueError(f"{path}:1: there is no column {fault}") from None
+            except (csv.Error, ValueError, TypeError) as fault:
+                raise ValueError(f"{path}:{line}: {fault}") from None
+        return found
 
 
 def is_results(path: Path) -> bool:
@@ -247,10 +271,10 @@ def read_results(folder: Path) -> StudyResults:
     """The results in a folder, or ValueError where its summary is none."""
     path = folder / "summary.json"
     try:
-        summary = json.loads(path.read_text(encoding="utf-8"))
+        summary = json.loads(whole_file(path).decode("utf-8"))
         units, scale = summary["units"], summary["units"].get("money_scale", 1)
         money = units["money"] if scale == 1 else f"{scale:,} {units['money']}"
-        dates = tuple(it["date"] for it in summary["calendar"])
-        return StudyResults(folder, summary["title"], money, dates, summary["estimated"])
-    except (ValueError, KeyError, TypeError, AttributeError) as fault:
+        dates = tuple(str(it["date"]) for it in summary["calendar"])
+        return StudyResults(folder, str(summary["title"]), str(money), dates, dict(summary["estimated"]))
+    except (ValueError, KeyError, TypeError, AttributeError, RecursionError) as fault:
         raise ValueError(f"{path} is no summary of a study: {fault!r}") from None

@@ -25,7 +25,7 @@ PLAIN = {
     "output failed": "standard output was closed, or its disk is full",
     "memory": "memory was refused: free some, or train with fewer iterations or a smaller problem",
 }
-TOO_MUCH = re.compile(r"too much: formula (\d) gives (\d+)")
+TOO_MUCH = re.compile(r"too much: formula (\d) gives (\d{1,60})\b")
 REFUSED = re.compile(r"journal refused: (\w+)((?: \w+)*)")
 # lines of the script, which say in words what they mean
 IN_WORDS = re.compile(

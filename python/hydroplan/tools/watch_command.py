@@ -5,6 +5,7 @@ Outside the proved core, but each bound that is shown is one that `check` printe
 from __future__ import annotations
 
 import argparse
+import os
 import subprocess
 import sys
 import time
@@ -14,12 +15,14 @@ from pathlib import Path
 from typing import Callable, Iterator, Optional, Sequence
 
 from ..repository import TOP
+from .bounded_files import is_utf8, opened
 from .convert_command import read_with
 from .decimals import Direction, decimal_text
 from .profile import SCALE
 from .scales import read_scales
 from .shown_names import shown_name
 from .waiting import in_words
+from .word_parser import WordParser
 
 
 @dataclass(frozen=True)
@@ -50,8 +53,10 @@ def read_check(status: int, output: str, errors: str) -> Look:
 
 def run_check(program: Path, journal: Path, problem: Path) -> Look:
     """Runs `check` on the journal. A program in the folder at hand is found there, not among the commands of the machine."""
-    with problem.open("rb") as source:
-        ended = subprocess.run([str(program.resolve()), "check", str(journal)], stdin=source, capture_output=True, check=False)
+    # a name that begins as an option does stands behind its folder
+    named = os.path.join(".", journal) if str(journal).startswith("-") else str(journal)
+    with open(opened(problem), "rb") as source:
+        ended = subprocess.run([str(program.resolve()), "check", named], stdin=source, capture_output=True, check=False)
     output, errors = (it.decode("utf-8", "replace") for it in (ended.stdout, ended.stderr))
     return read_check(ended.returncode, output, errors)
 
@@ -142,7 +147,7 @@ whenever the journal changed, and writes a row for each iteration on standard ou
 
 def parser() -> argparse.ArgumentParser:
     """What the command line may say."""
-    found = argparse.ArgumentParser(
+    found = WordParser(
         prog="watch", description=DESCRIPTION,
         epilog="example: ./hydroplan watch plan.journal problem.json --until 500",
     )
@@ -169,6 +174,8 @@ def main(words: Optional[Sequence[str]] = None) -> int:
     chosen = parser().parse_args(words)
     try:
         units = _units(chosen.scales)
+        if not is_utf8(chosen.journal):
+            raise ValueError(f"{chosen.journal}: the name of a journal is in UTF-8")
         for path in (chosen.program, chosen.problem):
             if not path.is_file():
                 raise ValueError(f"{path} is not there")
