@@ -50,7 +50,7 @@ def wide_table(results_folder: Union[str, "os.PathLike[str]"], choice: Choice) -
 
 def _stored(results: Results, choice: Choice) -> Any:
     table = _needed(results, "storage_quantiles")
-    return _in_order(table.pivot_table(choice.number, "stage", "reservoir", "first", observed=True), table["reservoir"])
+    return _in_order(table.pivot_table(choice.number, "stage", "reservoir", "first", observed=True), table["reservoir"], "storage_quantiles")
 
 
 def _prices(results: Results, choice: Choice) -> Any:
@@ -58,14 +58,14 @@ def _prices(results: Results, choice: Choice) -> Any:
     table = _needed(results, "price_quantiles")
     if choice.by_block or table["block"].nunique() < 2:
         table["column"] = _labels(table, "bus", table["block"].nunique() > 1)
-        return _in_order(table.pivot_table(choice.number, "stage", "column", "first"), table["column"])
+        return _in_order(table.pivot_table(choice.number, "stage", "column", "first"), table["column"], "price_quantiles")
     if choice.number != "mean":
         raise ReportError("quantiles of prices are those of a block: ask for each block by itself, or for the mean")
     hours = {it.number: it.hours for it in results.summary.stages}
     table["hours"] = [hours.get(stage, {}).get(block, 1.0) for stage, block in zip(table["stage"], table["block"])]
     table["weighted"] = table["mean"] * table["hours"]
     sums = table.groupby(["stage", "bus"], observed=True)[["weighted", "hours"]].sum()
-    return _in_order((sums["weighted"] / sums["hours"]).unstack("bus"), table["bus"])
+    return _in_order((sums["weighted"] / sums["hours"]).unstack("bus"), table["bus"], "price_quantiles")
 
 
 def _decided(results: Results, choice: Choice) -> Any:
@@ -93,7 +93,7 @@ def _part_in_wide_form(part: Any, choice: Choice) -> Optional[Any]:
         return None
     found["column"] = _labels(found, "element", choice.by_block and choice.what == GENERATION)
     sums = found.groupby(["scenario", "stage", "column"])["value"].sum()
-    return _in_order(sums.unstack("column"), found["column"])
+    return _in_order(sums.unstack("column"), found["column"], "decisions")
 
 
 def _labels(table: Any, name: str, with_block: bool) -> List[str]:
@@ -103,9 +103,13 @@ def _labels(table: Any, name: str, with_block: bool) -> List[str]:
     return [f"{it}, {block}" if with_block and block else it for it, block in zip(names, table["block"])]
 
 
-def _in_order(table: Any, names: Any) -> Any:
-    """The columns in the order in which the file has them."""
-    return table[list(dict.fromkeys(names))]
+def _in_order(table: Any, names: Any, file: str) -> Any:
+    """The columns in the order in which the file has them; ReportError where the rows of one have no number."""
+    wanted = list(dict.fromkeys(names))
+    missing = next((it for it in wanted if it not in table.columns), None)
+    if missing is not None:
+        raise ReportError(f'{file}.csv: the rows of "{missing}" have no number')
+    return table[wanted]
 
 
 def _needed(results: Results, name: str) -> Any:

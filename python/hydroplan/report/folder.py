@@ -292,14 +292,6 @@ NAMES = {"block", "element", "quantity", "reservoir", "bus", "unit", "node"}
 ROWS_AT_ONCE = 500_000
 
 
-def _named(part: Any, path: Path) -> Any:
-    """The rows, where none is so short that it has no name."""
-    lacking = next((it for it in part.columns if it in NAMES and part[it].isna().any()), None)
-    if lacking is not None:
-        raise ReportError(f'{path}: a row is too short, and has no "{lacking}"')
-    return part
-
-
 class Results:
     """A folder of results: its summary, and its tables when they are asked for."""
 
@@ -334,7 +326,7 @@ class Results:
         try:
             with open(opened(path), "rb") as file:
                 read = pandas.read_csv(file, **words, chunksize=rows_at_once)
-                yield from (_named(part, path) for part in (read if rows_at_once else [read]))
+                yield from read if rows_at_once else [read]
         except OSError as fault:
             raise ReportError(f"cannot open {path}: {fault.strerror}") from None
         except (ValueError, OverflowError) as fault:
