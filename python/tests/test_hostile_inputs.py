@@ -22,7 +22,8 @@ RECORD = "year,month,lake\n" + "".join(f"{year},{month},{month}\n" for year in (
 PROBLEM = (EXAMPLES / "one_reservoir.json").read_text(encoding="utf-8")
 NEWS = (DATA / "newsvendor.sof.json").read_text(encoding="utf-8")
 BOUNDS = (DATA / "newsvendor.bounds.json").read_text(encoding="utf-8")
-CHECK, CONVERT, WATCH = ["study", "--check", "."], ["convert", "problem", "p", "--bounds", "b", "--negate-max", "--write-scales", "s"], ["watch", "--once"]
+CHECK, WATCH = ["study", "--check", "."], ["watch", "--once"]
+CONVERT = ["convert", "problem", "p", "--bounds", "b", "--negate-max", "--write-scales", "s"]
 PLOTS = (["plot", "bounds", "r"], ["plot", "storage", "r"])
 EXPORT = ["export", "r", "--what", "storage"]
 STORED = "stage,date,reservoir,unit,mean,least,p05,p10,p25,p50,p75,p90,p95,greatest\n1,2026-01-01,lake,hm3" + ",1" * 10 + "\n"
@@ -150,6 +151,7 @@ class Maker:
         yield CHECK, {"study.toml": twice}, "has the name of a reservoir"
         yield ["study", "--check", name], {}, "no such folder"
         yield ["study", "--check", b"\xff"], {}, "no such folder"
+        yield ["study", "--check", b"\xff"], {b"\xff/study.toml": LAKE}, "is in UTF-8"
         yield [*CHECK, name], {"study.toml": LAKE}, "unrecognized arguments", 2
         yield CHECK, {"study.toml": LAKE.encode("utf-8") + b"# \xff"}, "no UTF-8: .*, in line 34"
         for words in (["convert", "problem", name, "--write-scales", "s"], ["explain", name], ["plot", "bounds", name]):

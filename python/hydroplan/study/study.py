@@ -20,6 +20,7 @@ from ..model import Model
 from ..plants import System
 from ..programs import Compiled
 from ..runs import MOST_BATCH, MOST_SEED, BoundStalling, IterationLimit, Statistical, StopRule, TimeLimit
+from ..tools.bounded_files import is_utf8
 from ..tools.shown_names import shown_name
 from .document import Document, StudyError, Table
 from .elements import KINDS, add_elements
@@ -218,6 +219,8 @@ def read_study(folder: Path, overrides: Sequence[str] = ()) -> Study:
     """The study in a folder; StudyError names file, line and key of what is wrong. `overrides` are words as in `stop.gap=0.02`."""
     if not folder.is_dir():
         raise StudyError(f"{folder}: no such folder")
+    if not is_utf8(folder):
+        raise StudyError(f"{folder}: the name of a folder is in UTF-8, as the program takes the journal in it")
     document = Document.read(folder / FILE)
     document.override(overrides)
     top = document.top().only(TABLES)

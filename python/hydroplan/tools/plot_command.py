@@ -82,7 +82,7 @@ def _draw(drawing: Drawing, prefix: Path) -> int:
         print(f"plot: {WITHOUT_LIBRARY}", file=sys.stderr)
         return 1
     for path in pictures.save(drawing(pictures), prefix):
-        print(path)
+        print(shown_name(str(path)))
     return 0
 
 
